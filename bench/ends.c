@@ -440,10 +440,14 @@ ALWAYS void window(const struct form *f, struct load l, void *(*thread)(void *))
     free(times);
 }
 
-/* An empty take, a poll, a wake-up with its packet, a send into a full ring. */
+/* An empty take, a poll, a wake-up with its packet, a send into a full ring. Of an end that never sleeps the second and the third are 0. */
 ALWAYS void calls(const struct form *f, struct load l)
 {
     uint64_t best[4] = {UINT64_MAX, UINT64_MAX, UINT64_MAX, UINT64_MAX};
+    open_channel();
+    bool sleeps = f->arm(&host, 0);
+    if (!sleeps)
+        best[1] = best[2] = 0;
     for (uint64_t r = 0; r < l.rounds; r++) {
         open_channel();
         uint64_t start = now();
@@ -452,7 +456,7 @@ ALWAYS void calls(const struct form *f, struct load l)
                 fail("no empty ring");
         best[0] = lesser(best[0], 1000 * (now() - start) / l.count);
         start = now();
-        for (uint64_t i = 0; i < l.count; i++)
+        for (uint64_t i = 0; sleeps && i < l.count; i++)
             if (!f->arm(&host, 0) || f->send(&guest, answer_packet) != DONE || !f->poll(&host) || f->take(&host) != DONE)
                 fail("no wake-up");
         best[2] = lesser(best[2], 1000 * (now() - start) / l.count);
@@ -463,6 +467,8 @@ ALWAYS void calls(const struct form *f, struct load l)
             if (f->send(&guest, answer_packet) != NO_ROOM)
                 fail("no full ring");
         best[3] = lesser(best[3], 1000 * (now() - start) / l.count);
+        if (!sleeps)
+            continue;
         if (!f->arm(&guest, 0))
             fail("an end doesn't sleep");
         start = now();
@@ -474,19 +480,53 @@ ALWAYS void calls(const struct form *f, struct load l)
     printf("calls %" PRIu64 " %" PRIu64 " %" PRIu64 " %" PRIu64 "\n", best[0], best[1], best[2], best[3]);
 }
 
-/* A stop at an index in no form, of an end by plans: each time a copy of a new one. */
-static void bad(struct load l)
+/* A take that finds a write index in no form: of each form the one call, and what sets the end back to a new one. */
+struct spoilt {
+    bool (*take)(void); /* whether it ended as it has to */
+    void (*anew)(void);
+};
+
+static struct vmbus_plan_end fresh;
+
+static inline bool plans_spoilt(void)
+{
+    return plans_take(&host) == STOPPED;
+}
+
+static inline void plans_anew(void)
+{
+    host.plan = fresh;
+}
+
+static const struct spoilt plans_bad = {plans_spoilt, plans_anew};
+
+#ifdef WITH_LINUX
+/* It knows no such index: it gives a packet of what lies there, as long as its buffer is. */
+static inline bool linux_spoilt(void)
+{
+    return hv_pkt_iter_first(&host.linux_end) != NULL;
+}
+
+static inline void linux_anew(void)
+{
+    host.linux_end.inbound.priv_read_index = 0;
+}
+
+static const struct spoilt linux_bad = {linux_spoilt, linux_anew};
+#endif
+
+ALWAYS void bad(const struct spoilt *f, struct load l)
 {
     uint64_t best = UINT64_MAX;
     for (uint64_t r = 0; r < l.rounds; r++) {
         open_channel();
-        struct vmbus_plan_end fresh = host.plan;
+        fresh = host.plan;
         __atomic_store_n(&host.in.head->write, UINT32_MAX, __ATOMIC_SEQ_CST);
         uint64_t start = now();
         for (uint64_t i = 0; i < l.count; i++) {
-            host.plan = fresh;
-            if (plans_take(&host) != STOPPED)
-                fail("no stop");
+            f->anew();
+            if (!f->take())
+                fail("no end at a bad index");
         }
         best = lesser(best, 1000 * (now() - start) / l.count);
     }
@@ -520,6 +560,19 @@ FORM(linux_ring, linux_form)
 FORM(dpdk_ring, dpdk)
 #endif
 
+static void time_bad(const char *form, struct load l)
+{
+#ifdef WITH_LINUX
+    if (strcmp(form, "linux") == 0) {
+        bad(&linux_bad, l);
+        return;
+    }
+#endif
+    if (strcmp(form, "plans") != 0)
+        fail("an index in no form is tried of plans and of linux");
+    bad(&plans_bad, l);
+}
+
 int main(int count, char **words)
 {
     struct load l = {100, 1, 24, 4, false, 256};
@@ -542,7 +595,7 @@ int main(int count, char **words)
     if (strcmp(part, "space") == 0)
         printf("space %zu %zu\n", sizeof(struct vmbus_plan_end), sizeof(struct vmbus_end));
     else if (strcmp(part, "bad") == 0)
-        bad(l);
+        time_bad(form, l);
     else if (strcmp(form, "plans") == 0)
         time_plans(part, l);
     else if (strcmp(form, "steps") == 0)

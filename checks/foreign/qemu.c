@@ -2,8 +2,7 @@
 #define _GNU_SOURCE
 #include "shim_qemu.h"
 #include "qemu_ring.h"
-#include "gaps.h"
-#include "packets.h"
+#include "turns.h"
 
 #define MOST_PAGES 128
 
@@ -13,9 +12,6 @@ static VMBusGpadl pages;
 static AddressSpace space;
 static VMBusDevice device = {&space};
 static VMBusChannel theirs;
-static struct vmbus_ring rings[2];
-static struct vmbus_plan_end ours;
-static uint64_t sent[2], taken[2];
 
 int vmbus_channel_notify_guest(VMBusChannel *chan)
 {
@@ -31,17 +27,14 @@ void vmbus_channel_notify_host(VMBusChannel *chan)
 static void open_channel(uint32_t bytes)
 {
     uint32_t each = 1 + bytes / 4096;
-    ring_bytes = bytes;
     memset(memory, 0, sizeof memory);
     for (uint32_t i = 0; i < 2; i++) {
         rings[i].head = (struct vmbus_ring_words *)memory[i];
         rings[i].cells = (char *)memory[i] + 4096;
-        rings[i].head->mask = rings[i].head->feature = 1;
         for (uint32_t j = 0; j < each; j++)
             frames[i * each + j] = ((uintptr_t)memory[i] + 4096 * (uintptr_t)j) >> 12;
     }
-    if (!vmbus_plan_make(&ours, bytes))
-        fail("no size of a ring", bytes);
+    open_rings(bytes);
     memset(&theirs, 0, sizeof theirs);
     memset(&pages, 0, sizeof pages);
     pages.num_gfns = 2 * each;
@@ -52,47 +45,28 @@ static void open_channel(uint32_t bytes)
     theirs.is_open = true;
     if (ringbufs_init(&theirs) != 0)
         fail("QEMU doesn't open the rings", bytes);
-    memset(sent, 0, sizeof sent);
-    memset(taken, 0, sizeof taken);
 }
 
-static void our_send(void)
+/* Nobody sleeps, so that the mask stays 1 and no packet wants a signal. */
+static void raise_them(bool for_room)
 {
-    uint64_t p[MOST_WORDS];
-    make_packet(0, sent[0], p);
-    uint32_t a = vmbus_ring_send(&ours, rings[0], p);
-    if (a != VMBUS_FULL && a != VMBUS_SENT_QUIET) /* the mask stays 1 while nobody sleeps */
-        fail("our send", a);
-    sent[0] += a == VMBUS_SENT_QUIET;
+    if (!for_room)
+        fail("a signal that nobody asked for", sent[0]);
 }
 
-static void our_take(uint32_t most)
-{
-    static uint64_t p[1 << 16];
-    uint32_t len = 0, offset = 0, a, n = 0;
-    while (n < most && (a = vmbus_ring_take(&ours, rings[1], p, &len, &offset)) != VMBUS_EMPTY) {
-        if (a != VMBUS_TOOK || offset != 2)
-            fail("our take", a);
-        compare(1, taken[1]++, p, len);
-        n++;
-    }
-    a = n ? vmbus_ring_commit(&ours, rings[1]) : VMBUS_COMMITTED_QUIET;
-    if (a != VMBUS_COMMITTED_QUIET && a != VMBUS_COMMITTED_RAISED)
-        fail("our commit", a);
-}
-
-static void their_send(void)
+static bool their_send(void)
 {
     uint64_t p[MOST_WORDS];
     uint32_t bytes = 8 * (make_packet(1, sent[1], p) - 2);
     if (vmbus_channel_reserve(&theirs, 0, bytes) != 0)
-        return;
+        return false;
     if (vmbus_channel_send(&theirs, 6, NULL, 0, p + 2, bytes, false, p[1]) < 0)
         fail("QEMU's send", sent[1]);
     sent[1]++;
+    return true;
 }
 
-static void their_take(uint32_t most)
+static uint32_t their_take(uint32_t most)
 {
     uint32_t n = 0;
     VMBusChanReq *r;
@@ -115,27 +89,7 @@ static void their_take(uint32_t most)
     if (vmbus_channel_recv_done(&theirs) < 0)
         fail("QEMU's commit", n);
     ringbuf_end_io(&theirs.recv_ringbuf.common);
-}
-
-static bool inside;
-static uint64_t random_state = 1;
-
-static uint32_t some(uint32_t n)
-{
-    random_state = mixed(random_state);
-    return (uint32_t)(random_state >> 16) % n;
-}
-
-static void gap(void)
-{
-    if (inside || some(3))
-        return;
-    inside = true;
-    if (some(2))
-        their_send();
-    else
-        their_take(1 + some(4));
-    inside = false;
+    return n;
 }
 
 int main(void)
@@ -143,15 +97,7 @@ int main(void)
     static const uint32_t sizes[] = {1, 2, 16, MOST_PAGES};
     for (int i = 0; i < 4; i++) {
         open_channel(sizes[i] * 4096);
-        while (taken[0] < 200000 || taken[1] < 200000) {
-            if (some(2))
-                our_send();
-            else
-                our_take(1 + some(4));
-            if (some(8) == 0)
-                gap();
-        }
-        printf("in turns, %3" PRIu32 " pages: %" PRIu64 " packets to QEMU and %" PRIu64 " from it, none of them wrong\n", sizes[i], taken[0], taken[1]);
+        take_turns("QEMU", 200000);
     }
     return 0;
 }

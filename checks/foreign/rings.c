@@ -10,56 +10,45 @@
 #include <unistd.h>
 #include "shim.h"
 
-#include "gaps.h"
-#include "packets.h"
+#include "turns.h"
 
 /* ---- The channel: way 0 is ours to Linux, way 1 Linux's to us. Linux maps the data of a ring twice. ---- */
-struct shared {
-    struct vmbus_ring ring;
-    char *begin;
-};
-static struct shared shared[2];
 static uint64_t signals[2]; /* 0 ours, 1 Linux's */
+static uint32_t mapped;     /* the bytes of data of each ring that is mapped */
 
-static void map_ring(struct shared *s)
+static struct vmbus_ring map_ring(uint32_t bytes)
 {
     int fd = memfd_create("ring", 0);
-    size_t all = PAGE_SIZE + ring_bytes;
+    size_t all = PAGE_SIZE + bytes;
     if (fd < 0 || ftruncate(fd, all) != 0)
         fail("no memory", 0);
-    char *at = mmap(NULL, all + ring_bytes, PROT_NONE, MAP_PRIVATE | MAP_ANONYMOUS, -1, 0);
+    char *at = mmap(NULL, all + bytes, PROT_NONE, MAP_PRIVATE | MAP_ANONYMOUS, -1, 0);
     if (at == MAP_FAILED || mmap(at, all, PROT_READ | PROT_WRITE, MAP_SHARED | MAP_FIXED, fd, 0) == MAP_FAILED
-        || mmap(at + all, ring_bytes, PROT_READ | PROT_WRITE, MAP_SHARED | MAP_FIXED, fd, PAGE_SIZE) == MAP_FAILED)
+        || mmap(at + all, bytes, PROT_READ | PROT_WRITE, MAP_SHARED | MAP_FIXED, fd, PAGE_SIZE) == MAP_FAILED)
         fail("no memory", 0);
     close(fd);
-    s->begin = at;
-    s->ring.head = (struct vmbus_ring_words *)at;
-    s->ring.cells = at + PAGE_SIZE;
-    s->ring.head->mask = s->ring.head->feature = 1;
+    return (struct vmbus_ring){(struct vmbus_ring_words *)at, at + PAGE_SIZE};
 }
 
-static struct vmbus_plan_end ours;
 static struct vmbus_channel theirs;
 
 static void open_channel(uint32_t bytes)
 {
-    ring_bytes = bytes;
     for (int i = 0; i < 2; i++) {
-        if (shared[i].begin)
-            munmap(shared[i].begin, PAGE_SIZE + 2 * (size_t)shared[i].ring.head->reserved[11]);
-        map_ring(&shared[i]);
-        shared[i].ring.head->reserved[11] = bytes;
+        if (mapped)
+            munmap(rings[i].head, PAGE_SIZE + 2 * (size_t)mapped);
+        rings[i] = map_ring(bytes);
         signals[i] = 0;
     }
-    if (!vmbus_plan_make(&ours, bytes))
-        fail("no size of a ring", bytes);
+    mapped = bytes;
+    open_rings(bytes);
     free(theirs.inbound.pkt_buffer);
     memset(&theirs, 0, sizeof theirs);
-    struct hv_ring_buffer_info *rings[2] = {&theirs.inbound, &theirs.outbound};
+    struct hv_ring_buffer_info *ends[2] = {&theirs.inbound, &theirs.outbound};
     for (int i = 0; i < 2; i++) {
-        rings[i]->ring_buffer = (struct hv_ring_buffer *)shared[i].begin;
-        rings[i]->ring_size = PAGE_SIZE + bytes;
-        rings[i]->ring_datasize = bytes;
+        ends[i]->ring_buffer = (struct hv_ring_buffer *)rings[i].head;
+        ends[i]->ring_size = PAGE_SIZE + bytes;
+        ends[i]->ring_datasize = bytes;
     }
     theirs.inbound.pkt_buffer = calloc(1, bytes);
     theirs.inbound.pkt_buffer_size = bytes;
@@ -77,49 +66,13 @@ void vmbus_setevent(struct vmbus_channel *channel)
     raise_signal(channel->raised);
 }
 
-static void raise_them(void)
+static void raise_them(bool for_room)
 {
+    (void)for_room;
     raise_signal(&signals[1]);
 }
 
-/* ---- Whole calls of both ends, with the numbers of the packets that come next. ---- */
-static uint64_t sent[2], taken[2];
-
-static bool our_send(void)
-{
-    uint64_t p[MOST_WORDS];
-    make_packet(0, sent[0], p);
-    uint32_t a = vmbus_ring_send(&ours, shared[0].ring, p);
-    if (a == VMBUS_FULL)
-        return false;
-    if (a != VMBUS_SENT_QUIET && a != VMBUS_SENT_RAISED)
-        fail("our send", a);
-    sent[0]++;
-    if (a == VMBUS_SENT_RAISED)
-        raise_them();
-    return true;
-}
-
-/* Takes up to so many packets, and gives their room back. */
-static uint32_t our_take(uint32_t most)
-{
-    static uint64_t p[1 << 17];
-    uint32_t len = 0, offset = 0, a, n = 0;
-    while (n < most && (a = vmbus_ring_take(&ours, shared[1].ring, p, &len, &offset)) != VMBUS_EMPTY) {
-        if (a != VMBUS_TOOK || offset != 2)
-            fail("our take", a);
-        compare(1, taken[1]++, p, len);
-        n++;
-    }
-    if (n == 0)
-        return 0;
-    a = vmbus_ring_commit(&ours, shared[1].ring);
-    if (a == VMBUS_COMMITTED_RAISED)
-        raise_them();
-    else if (a != VMBUS_COMMITTED_QUIET)
-        fail("our commit", a);
-    return n;
-}
+/* ---- Whole calls of Linux's end, with the numbers of the packets that come next. ---- */
 
 static bool their_send(void)
 {
@@ -151,46 +104,6 @@ static uint32_t their_take(uint32_t most)
     return n;
 }
 
-/* ---- In turns. ---- */
-static bool in_turns, inside;
-static uint64_t random_state = 1;
-
-static uint32_t some(uint32_t n)
-{
-    random_state = mixed(random_state);
-    return (uint32_t)(random_state >> 16) % n;
-}
-
-static void gap(void)
-{
-    if (!in_turns || inside || some(3))
-        return;
-    inside = true;
-    if (some(2))
-        their_send();
-    else
-        their_take(1 + some(4));
-    inside = false;
-}
-
-static void turns(uint32_t pages, uint64_t packets)
-{
-    open_channel(pages * PAGE_SIZE);
-    memset(sent, 0, sizeof sent);
-    memset(taken, 0, sizeof taken);
-    in_turns = true;
-    while (taken[0] < packets || taken[1] < packets) {
-        if (some(2))
-            our_send();
-        else
-            our_take(1 + some(4));
-        if (some(8) == 0)
-            gap();
-    }
-    in_turns = false;
-    printf("in turns, %3" PRIu32 " pages: %" PRIu64 " packets to Linux and %" PRIu64 " from it, none of them wrong\n", pages, taken[0], taken[1]);
-}
-
 /* ---- Two threads that sleep. An end that sleeps where there is work for it, though its signal is down and its peer has ended calls since, or sleeps too, lost a wake-up. ---- */
 static uint64_t calls[2], asleep[2], sleeps[2];
 static bool over;
@@ -213,7 +126,7 @@ static bool is_over(void)
 /* Whether there is a packet for this end, or more room than it wants. */
 static bool has_work(int who, uint32_t want)
 {
-    struct vmbus_ring_words *in = shared[who == 0].ring.head, *out = shared[who].ring.head;
+    struct vmbus_ring_words *in = rings[who == 0].head, *out = rings[who].head;
     uint32_t r = __atomic_load_n(&out->read, __ATOMIC_SEQ_CST), w = __atomic_load_n(&out->write, __ATOMIC_SEQ_CST);
     uint32_t room = w >= r ? ring_bytes - (w - r) : r - w;
     return __atomic_load_n(&in->write, __ATOMIC_SEQ_CST) != __atomic_load_n(&in->read, __ATOMIC_SEQ_CST) || (want && room > want);
@@ -246,13 +159,13 @@ static void sleep_until_raised(int who, uint32_t want)
 
 static void our_rest(uint32_t want)
 {
-    uint32_t a = vmbus_ring_arm(&ours, shared[0].ring, shared[1].ring, want, NULL);
+    uint32_t a = vmbus_ring_arm(&ours, rings[0], rings[1], want, NULL);
     ended(0);
     while (a == VMBUS_FELL_ASLEEP || a == VMBUS_NO_SIGNAL) {
         sleep_until_raised(0, want);
         if (is_over())
             return;
-        a = vmbus_ring_poll(&ours, shared[0].ring, shared[1].ring, &signals[0]);
+        a = vmbus_ring_poll(&ours, rings[0], rings[1], &signals[0]);
     }
     if (a == VMBUS_NO_CALL)
         fail("our arm", a);
@@ -309,8 +222,6 @@ static void threads(uint32_t pages, unsigned seconds)
 {
     pthread_t a, b;
     open_channel(pages * PAGE_SIZE);
-    memset(sent, 0, sizeof sent);
-    memset(taken, 0, sizeof taken);
     memset(calls, 0, sizeof calls);
     memset(asleep, 0, sizeof asleep);
     memset(sleeps, 0, sizeof sleeps);
@@ -399,8 +310,10 @@ int main(int count, char **words)
     }
     if (strcmp(words[1], "threads") != 0) {
         any_ends(40000000);
-        for (int i = 0; i < 4; i++)
-            turns(pages[i], 200000);
+        for (int i = 0; i < 4; i++) {
+            open_channel(pages[i] * PAGE_SIZE);
+            take_turns("Linux", 200000);
+        }
     }
     for (int i = 0; i < 4; i++)
         threads(pages[i], seconds);

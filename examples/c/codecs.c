@@ -1,5 +1,6 @@
 /* Reads and writes messages and packets that were built from Linux's structs, line by line of the files that it is given: what is written of the numbers that were read has to be the same
-   bytes. A line is the hex of a control message; or a kind, a tab, the hex of a packet, of a storage packet or of a network message, a tab, and what it is. */
+   bytes. A line is the hex of a control message; or a kind, a tab, the hex of a packet, of a storage packet or of a network message, a tab, and what it is; or `list PAGES FIRST`, which the
+   messages of a list of so many page numbers follow, and `end`. */
 #include <ctype.h>
 #include <inttypes.h>
 #include <stdio.h>
@@ -9,7 +10,7 @@
 
 #define MOST 4096
 
-static unsigned messages, faults, packets, storage, network;
+static unsigned messages, faults, offers, lists, packets, storage, network;
 static const char *at_file;
 static unsigned at_line;
 
@@ -35,6 +36,107 @@ static size_t bytes_of(const char *hex, uint8_t *out)
     return n;
 }
 
+/* The bytes of a class id: of the five groups of its text the first three are little-endian. */
+static void class_id(const char *text, uint8_t *id)
+{
+    static const int places[] = {3, 2, 1, 0, 5, 4, 7, 6, 8, 9, 10, 11, 12, 13, 14, 15};
+    for (int i = 0; i < 16; i++) {
+        char two[3] = {text[0], text[1], 0};
+        id[places[i]] = (uint8_t)strtoul(two, NULL, 16);
+        text += text[2] == '-' ? 3 : 2;
+    }
+}
+
+/* Offers with the class ids of Linux's include/linux/hyperv.h and net/vmw_vsock/hyperv_transport.c, written number by number, and as offers. */
+static void channel_offers(void)
+{
+    static const struct {
+        uint32_t kind, port;
+        const char *class_id;
+    } kinds[] = {
+        {VMBUS_HEARTBEAT, 0, "57164f39-9115-4e78-ab55-382f3bd5422d"}, {VMBUS_SHUTDOWN, 0, "0e0b6031-5213-4934-818b-38d90ced39db"},
+        {VMBUS_SCSI, 0, "ba6163d9-04a1-4d29-b605-72e2ffb1dc7f"},      {VMBUS_NETWORK, 0, "f8615163-df3e-46c5-913f-f2d2f965ed0e"},
+        {VMBUS_SOCKET, 0, "00000000-facb-11e6-bd58-64006a7986d3"},    {VMBUS_SOCKET, 0x12345678, "12345678-facb-11e6-bd58-64006a7986d3"},
+    };
+    for (size_t i = 0; i < sizeof kinds / sizeof *kinds; i++) {
+        uint8_t b[VMBUS_MESSAGE_MOST] = {0}, out[VMBUS_MESSAGE_MOST];
+        struct vmbus_offer o = {3 + (uint32_t)i, kinds[i].kind, kinds[i].port, 2 * (uint32_t)i}, again;
+        struct vmbus_message m = {.kind = 1, .relid = o.relid, .sub = o.sub, .monitorid = 255, .connection = o.relid};
+        size_t n = 0, len = 0;
+        class_id(kinds[i].class_id, b + VMBUS_OFFER_IF_TYPE);
+        memcpy(b + VMBUS_OFFER_IF_INSTANCE, &o.relid, 4);
+        if (vmbus_message_write(&m, b, sizeof b, &n) != VMBUS_WRITTEN || vmbus_offer_write(&o, out, sizeof out, &len) != VMBUS_WRITTEN)
+            fail("an offer isn't written");
+        same(out, len, b, n, "another offer");
+        if (vmbus_offer_read(b, n, &again) != 0)
+            fail("an offer isn't read");
+        same(&o, sizeof o, &again, sizeof again, "another offer is read");
+        b[VMBUS_OFFER_IF_TYPE + 15]++;
+        if (vmbus_offer_read(b, n, &again) != 2 || vmbus_offer_read(b, n - 1, &again) != 1)
+            fail("no offer is read");
+        again = o;
+        again.sub += 0x10000;
+        o.port += o.kind == VMBUS_SOCKET ? 0 : 1;
+        o.kind += o.kind == VMBUS_SOCKET ? 1 : 0;
+        if (vmbus_offer_write(&o, out, sizeof out, &len) != VMBUS_NO_FORM || vmbus_offer_write(&again, out, sizeof out, &len) != VMBUS_NO_FORM)
+            fail("a number that no offer has is passed over");
+        offers++;
+    }
+}
+
+static struct vmbus_page_list list;
+static uint64_t list_pages[VMBUS_LIST_MOST], list_first;
+static uint32_t list_number, list_answer, list_want;
+static bool in_list;
+
+static void begin_list(const char *words)
+{
+    memset(&list, 0, sizeof list);
+    if (sscanf(words, "%" SCNu32 " %" SCNu64, &list_want, &list_first) != 2)
+        fail("no list");
+    in_list = true;
+    list_number = 0;
+    list_answer = VMBUS_LIST_MORE;
+}
+
+/* The next message of a list: it is taken, and is the one that is cut of the pages. */
+static void list_message(const uint8_t *b, size_t n)
+{
+    static uint64_t pages[VMBUS_LIST_MOST];
+    struct vmbus_fault f;
+    uint8_t out[VMBUS_MESSAGE_MOST];
+    size_t len = 0;
+    for (uint32_t i = 0; i < list_want; i++)
+        pages[i] = list_first + i;
+    uint32_t live = 7, relid = b[8] | b[9] << 8, handle;
+    memcpy(&handle, b + 12, 4);
+    if (list_number == 0 && (vmbus_gpadl_take(b, n, &handle, 1, &list, list_pages, list_want, &f) != VMBUS_LIST_REPEAT || f.value != handle))
+        fail("a list is taken that is live");
+    if (list_number == 0 && (vmbus_gpadl_take(b, n, &live, 1, &list, list_pages, list_want - 1, &f) != VMBUS_LIST_NO_ROOM || f.need != list_want || f.have != list_want - 1))
+        fail("a list is taken without room");
+    list_answer = vmbus_gpadl_take(b, n, &live, 1, &list, list_pages, list_want, &f);
+    if (list_answer > VMBUS_LIST_MORE)
+        fail("a list's message isn't taken");
+    if (list_number == 0 && relid != list.relid)
+        fail("another channel");
+    if (vmbus_gpadl_write(list.relid, list.gpadl, pages, list_want, list_number++, out, sizeof out, &len) != VMBUS_WRITTEN)
+        fail("a list's message isn't written");
+    same(out, len, b, n, "another message of a list");
+    messages++;
+}
+
+static void end_list(void)
+{
+    uint8_t out[VMBUS_MESSAGE_MOST];
+    size_t len = 0;
+    if (list_answer != VMBUS_LIST_WHOLE || list.want != list_want || list.have != list_want || list_pages[0] != list_first || list_pages[list_want - 1] != list_first + list_want - 1)
+        fail("the list isn't whole");
+    if (vmbus_gpadl_write(list.relid, list.gpadl, list_pages, list_want, list_number, out, sizeof out, &len) != VMBUS_NO_FORM)
+        fail("a list has a message more");
+    lists++;
+    in_list = false;
+}
+
 static void control_message(const uint8_t *b, size_t n)
 {
     struct vmbus_message m;
@@ -46,7 +148,7 @@ static void control_message(const uint8_t *b, size_t n)
         return;
     }
     messages++;
-    if (m.kind == 8 || m.kind == 9) /* a page list's */
+    if (m.kind == 8 || m.kind == 9) /* a page list's, by itself */
         return;
     if (m.kind == 1 || m.kind == 21) {
         memcpy(out + VMBUS_OFFER_IF_TYPE, b + VMBUS_OFFER_IF_TYPE, 16);
@@ -71,6 +173,7 @@ static void packet(const char *kind, const uint8_t *b, size_t n)
     uint64_t words[MOST / 8], out[VMBUS_PACKET_MOST], frames[VMBUS_PACKET_MOST];
     struct vmbus_packet p;
     struct vmbus_range r;
+    struct vmbus_part parts[VMBUS_PACKET_MOST];
     size_t len = 0, count = 0;
     uint32_t a = VMBUS_WRITTEN, offset = 0, bytes = 0;
     memcpy(words, b, n);
@@ -92,6 +195,16 @@ static void packet(const char *kind, const uint8_t *b, size_t n)
                 frames[count++] = words[r.frames_at + i];
         }
         a = vmbus_packet_pages(p.tid, offset, bytes, frames, count, payload, load, out, VMBUS_PACKET_MOST, &len);
+    } else if (strcmp(kind, "transfer-pages") == 0) {
+        struct vmbus_transfer t;
+        if (vmbus_packet_transfer_read(words, n / 8, &t) != 0)
+            fail("no packet of type 7");
+        for (uint32_t i = 0; i < t.parts; i++)
+            if (vmbus_packet_part(words, n / 8, i, &parts[i]) != 0)
+                fail("no range");
+        if (vmbus_packet_part(words, n / 8, t.parts, &parts[0]) != 2)
+            fail("a range more");
+        a = vmbus_packet_transfer(p.tid, t.pageset, parts, t.parts, payload, load, out, VMBUS_PACKET_MOST, &len);
     } else
         return;
     if (a != VMBUS_WRITTEN)
@@ -192,8 +305,20 @@ static void line(char *text)
     static const char *const of_storage[] = {"begin-initialization", "enumerate-bus", "query-protocol", "create-sub-channels", "srb", NULL};
     static uint8_t b[MOST];
     char *hex = strchr(text, '\t'), *meaning = hex ? strchr(hex + 1, '\t') : NULL;
+    if (strncmp(text, "list ", 5) == 0) {
+        begin_list(text + 5);
+        return;
+    }
+    if (strncmp(text, "end", 3) == 0) {
+        end_list();
+        return;
+    }
     if (!hex) {
-        control_message(b, bytes_of(text, b));
+        size_t n = bytes_of(text, b);
+        if (in_list)
+            list_message(b, n);
+        else
+            control_message(b, n);
         return;
     }
     *hex++ = 0;
@@ -208,8 +333,25 @@ static void line(char *text)
         rndis(b, n, text[0] == 'c', meaning && strncmp(meaning + 1, "good", 4) == 0);
 }
 
+/* The versions that a guest tries, each after the one before was refused. */
+static void versions(void)
+{
+    static const uint32_t all[] = {VMBUS_VERSION(5, 3), VMBUS_VERSION(5, 2), VMBUS_VERSION(5, 1), VMBUS_VERSION(5, 0), VMBUS_VERSION(4, 1), VMBUS_VERSION(4, 0), VMBUS_VERSION(3, 0), VMBUS_VERSION(2, 4), 0};
+    for (int i = 0; all[i]; i++) {
+        if (vmbus_version_next(all[i]) != all[i + 1] || vmbus_version_next(all[i] + 1) != (i == 1 || i == 2 || i == 3 || i == 5 ? all[i] : 0))
+            fail("another version comes next");
+        for (int j = 0; all[j]; j++)
+            if (vmbus_version_agree(all[i], all[j]) != all[i > j ? i : j] || vmbus_version_accepts(all[i], all[j]) != (i <= j))
+                fail("another version is agreed on");
+        if (vmbus_version_has_modify(all[i]) != (i <= 4) || vmbus_version_answers_modify(all[i]) != (i == 0))
+            fail("MODIFYCHANNEL at another version");
+    }
+}
+
 int main(int argc, char **argv)
 {
+    versions();
+    channel_offers();
     static char text[1 << 16];
     for (int i = 1; i < argc; i++) {
         FILE *file = fopen(argv[i], "r");
@@ -224,6 +366,7 @@ int main(int argc, char **argv)
         }
         fclose(file);
     }
-    printf("%u messages and %u refusals, %u packets, %u storage packets, %u network messages: each is written as it was read\n", messages, faults, packets, storage, network);
+    printf("%u messages and %u refusals, %u offers, %u page lists, %u packets, %u storage packets, %u network messages: each is written as it was read\n", messages, faults, offers, lists, packets,
+           storage, network);
     return 0;
 }

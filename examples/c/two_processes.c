@@ -1,84 +1,14 @@
 /* A heartbeat between two processes: both ends of a channel over pages that they share, with Linux's layout, each asleep on its own signal where it has nothing to do. The host asks, and the guest
    answers. The ends are those by plans (crates/ring_plan_c), the answers are crates/vmbus_c's. For Linux: memfd_create, mmap, eventfd, fork. */
 #define _GNU_SOURCE
-#include <inttypes.h>
-#include <stdio.h>
-#include <stdlib.h>
-#include <sys/eventfd.h>
-#include <sys/mman.h>
 #include <sys/wait.h>
-#include <unistd.h>
-#include "vmbus.h"
 
 #define PAGE 4096
 #define RING (4 * PAGE) /* bytes of data of each ring */
 #define BEATS 100000
 #define BEAT_BYTES 68   /* a heartbeat: 28 bytes of headers, a sequence number, 32 reserved bytes */
 #define BEAT_WORDS 11   /* its packet: two words of descriptor, nine of payload */
-
-/* One end, in private memory, and what it shares. */
-struct side {
-    struct vmbus_plan_end end;
-    struct vmbus_ring out, in;
-    int own, peer;       /* the signals: an eventfd each */
-    unsigned long sleeps;
-    uint64_t packet[RING / 8];
-    uint32_t len, offset; /* of the packet that was taken last */
-};
-
-static void fail(const char *what, uint32_t answer)
-{
-    fprintf(stderr, "%s: %" PRIu32 "\n", what, answer);
-    exit(1);
-}
-
-static void raise_peer(struct side *s)
-{
-    uint64_t one = 1;
-    if (write(s->peer, &one, sizeof one) != sizeof one)
-        fail("no signal", 0);
-}
-
-/* Sleeps until there is a packet, or more room than `want` bytes where that isn't 0. */
-static void rest(struct side *s, uint32_t want)
-{
-    uint32_t a = vmbus_ring_arm(&s->end, s->out, s->in, want, NULL);
-    if (a != VMBUS_FELL_ASLEEP)
-        return;
-    s->sleeps++;
-    do {
-        uint64_t raised = 0; /* an eventfd gives its count and takes it, as an exchange with 0 does */
-        if (read(s->own, &raised, sizeof raised) != sizeof raised)
-            fail("no signal", 0);
-        a = vmbus_poll_done(&s->end, raised);
-    } while (a == VMBUS_NO_SIGNAL);
-    vmbus_ring_awake(s->out, s->in, a);
-}
-
-static void send(struct side *s, const uint64_t *packet)
-{
-    uint32_t a, bytes = 8 * (uint32_t)(packet[0] >> 32 & 0xffff) + 8;
-    while ((a = vmbus_ring_send(&s->end, s->out, packet)) == VMBUS_FULL)
-        rest(s, bytes);
-    if (a == VMBUS_SENT_RAISED)
-        raise_peer(s);
-    else if (a != VMBUS_SENT_QUIET)
-        fail("not sent", a);
-}
-
-static void take(struct side *s)
-{
-    uint32_t a;
-    while ((a = vmbus_ring_take(&s->end, s->in, s->packet, &s->len, &s->offset)) == VMBUS_EMPTY)
-        rest(s, 0);
-    if (a != VMBUS_TOOK)
-        fail("not taken", a);
-    a = vmbus_ring_commit(&s->end, s->in);
-    if (a == VMBUS_COMMITTED_RAISED)
-        raise_peer(s);
-    else if (a != VMBUS_COMMITTED_QUIET)
-        fail("not committed", a);
-}
+#include "side.h"
 
 /* The first word of a packet in band of so many words: its type, where its payload begins, and its length. */
 static uint64_t head(uint32_t words)
@@ -90,7 +20,7 @@ static void guest(struct side *s)
 {
     for (unsigned long i = 0; i < BEATS; i++) {
         uint64_t answer[BEAT_WORDS] = {head(BEAT_WORDS)};
-        take(s);
+        take_packet(s);
         struct vmbus_packet p;
         if (vmbus_packet_read(s->packet, s->len, &p) != 0 || p.len8 != BEAT_WORDS)
             fail("no heartbeat", s->len);
@@ -98,7 +28,7 @@ static void guest(struct side *s)
         uint8_t *request = (uint8_t *)(s->packet + s->offset);
         if (vmbus_heartbeat_answer(request, 8 * (p.len8 - p.offset8), (uint8_t *)(answer + 2), sizeof answer - 16) != sizeof answer - 16)
             fail("no answer", 0);
-        send(s, answer);
+        send_packet(s, answer);
     }
 }
 
@@ -113,8 +43,8 @@ static void host(struct side *s)
         bytes[18] = 40;                 /* the bytes behind the headers */
         bytes[25] = 3;                  /* a transaction, and a request */
         memcpy(bytes + 28, &i, 8);
-        send(s, beat);
-        take(s);
+        send_packet(s, beat);
+        take_packet(s);
         uint8_t *reply = (uint8_t *)(s->packet + s->offset);
         memcpy(&risen, reply + 28, 8);
         if (s->len != BEAT_WORDS || s->packet[1] != i || risen != i + 1 || reply[20] != 0)

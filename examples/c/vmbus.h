@@ -1,5 +1,5 @@
-/* Calls of the static libraries vmbus_c (control messages, packets, services, signals), vmbus_net_c (NVSP and Remote NDIS), vmbus_stor_c (storage packets) and, for the ends
-   of a channel, ring_plan_c and vmbus_ring_c. Nothing takes memory, and nothing is kept between calls. A null pointer with length 0 is an empty slice. What each call gives is proved
+/* Calls of the static libraries vmbus_c (control messages, packets, services, signals), vmbus_control_c (versions, offers, page lists), vmbus_net_c (NVSP and Remote NDIS), vmbus_stor_c
+   (storage packets) and, for the ends of a channel, ring_plan_c and vmbus_ring_c. Nothing takes memory, and nothing is kept between calls. A null pointer with length 0 is an empty slice. What each call gives is proved
    there; here is what C has to know of it. Each call is total: whatever the numbers that it is given, it answers as is said here, and touches no memory but that. Every pointer is to
    private memory, never into pages that a peer shares: a call may read a byte twice, and rests on reading the same. Slices that are written overlap no other argument.
 
@@ -79,9 +79,88 @@ uint32_t vmbus_message_read(const uint8_t *bytes, size_t len, struct vmbus_messa
 
 /* The control message of these numbers at the front of out, round the ids and the user data, which stand in out already, at the places above; len is then how many bytes it has. VMBUS_NO_ROOM
    where out has less than the VMBUS_MESSAGE_MOST bytes that a message may have, and else VMBUS_NO_FORM where no message has these numbers: those that its type doesn't have are 0, and the
-   others fit their fields. Of types 8 and 9, a page list's messages, there is none here. */
+   others fit their fields. Of types 8 and 9, a page list's messages, there is none here: vmbus_gpadl_write. */
 #define VMBUS_MESSAGE_MOST 240
 uint32_t vmbus_message_write(const struct vmbus_message *message, uint8_t *out, size_t room, size_t *len);
+
+/* ---- Versions, offers and page lists (crates/vmbus_control_c). ---- */
+
+/* A version of the protocol (Linux include/linux/hyperv.h, VERSION_WIN10 and the others). There are 2.4, 3.0, 4.0, 4.1, 5.0, 5.1, 5.2 and 5.3. */
+#define VMBUS_VERSION(major, minor) ((uint32_t)(major) << 16 | (minor))
+
+/* The version that a guest tries after its host refused this one: the next lower one; 0 where none is left, after 2.4, or `refused` is no version (drivers/hv/connection.c, vmbus_connect). */
+uint32_t vmbus_version_next(uint32_t refused);
+
+/* Whether a host whose highest version is `highest` accepts one that a guest asks for. */
+bool vmbus_version_accepts(uint32_t highest, uint32_t asked);
+
+/* The version that a guest and a host use whose highest ones these are: the greatest that is above neither. 0 where one of them is no version. */
+uint32_t vmbus_version_agree(uint32_t guest, uint32_t host);
+
+/* Whether a version has MODIFYCHANNEL (from 4.1 on), and whether a host answers it there (from 5.3 on). */
+bool vmbus_version_has_modify(uint32_t version);
+bool vmbus_version_answers_modify(uint32_t version);
+
+enum vmbus_kind {
+    VMBUS_HEARTBEAT = 1,
+    VMBUS_SHUTDOWN = 2,
+    VMBUS_SCSI = 3,
+    VMBUS_NETWORK = 4,
+    VMBUS_SOCKET = 5, /* a service that listens at a port (net/vmw_vsock/hyperv_transport.c) */
+};
+
+/* What an offer says of its channel. */
+struct vmbus_offer {
+    uint32_t relid; /* the channel's number */
+    uint32_t kind;  /* what is at its other end: enum vmbus_kind */
+    uint32_t port;  /* of a socket's service; of other kinds 0 */
+    uint32_t sub;   /* which of the device's sub-channels it is, from 1 on; 0 for its primary channel */
+};
+
+/* The offer that the bytes are, all of them: 0. Otherwise nothing is written, and the answer is
+   1 no OFFERCHANNEL message (vmbus_message_read says why, or its type);
+   2 a class id that none of these kinds has. */
+uint32_t vmbus_offer_read(const uint8_t *bytes, size_t len, struct vmbus_offer *offer);
+
+/* The OFFERCHANNEL message of these numbers at the front of out: its kind's class id, the relid and zeros as its instance id, the relid as its connection, monitorid 255, and all else 0. len is
+   then how many bytes it has. VMBUS_NO_ROOM where out has less than VMBUS_MESSAGE_MOST bytes, and else VMBUS_NO_FORM where there is no such kind, a kind is given a port that has none, or sub has
+   more than 16 bits. Another offer is written by vmbus_message_write. */
+uint32_t vmbus_offer_write(const struct vmbus_offer *offer, uint8_t *out, size_t room, size_t *len);
+
+/* A page list (GPADL) of 1 to VMBUS_LIST_MOST pages goes as a header, with the first 26 page frame numbers, and bodies, with the next 28 each and the last one with the rest
+   (drivers/hv/channel.c, create_gpadl_header). */
+#define VMBUS_LIST_MOST 8190
+
+/* Message `number` of a list at the front of out: 0 is the header, and the bodies follow. len is then how many bytes it has. VMBUS_NO_ROOM where out has less than VMBUS_MESSAGE_MOST bytes, and
+   else VMBUS_NO_FORM where the list has no such message, or there is no such list. A guest sends all until VMBUS_NO_FORM comes. */
+uint32_t vmbus_gpadl_write(uint32_t relid, uint32_t gpadl, const uint64_t *pages, size_t count, uint32_t number, uint8_t *out, size_t room, size_t *len);
+
+/* A list that comes in messages. All 0 is none. It is whole where `have` is `want`, and stays so until the next header. */
+struct vmbus_page_list {
+    uint32_t relid; /* the channel that it is for */
+    uint32_t gpadl; /* its handle */
+    uint32_t want;  /* how many pages it has */
+    uint32_t have;  /* how many of them came: the first ones of `pages` */
+};
+
+enum vmbus_list_answer {
+    VMBUS_LIST_WHOLE = 0,
+    VMBUS_LIST_MORE = 1,     /* taken, and pages are missing */
+    VMBUS_LIST_NO_PIECE = 2, /* the bytes are no header or body of a page list (vmbus_message_read says why, or its type) */
+    VMBUS_LIST_REPEAT = 3,   /* a header whose handle is being built or is live: value is the handle */
+    VMBUS_LIST_HANDLE = 4,   /* a header while another list is being built, or a body of another list: value is its handle */
+    VMBUS_LIST_RANGE = 5,    /* a header whose range isn't one of whole pages: value is its offset, or where that is 0 its byte count */
+    VMBUS_LIST_COUNT = 6,    /* a body with more frames (have) than are missing (need) */
+    VMBUS_LIST_NO_ROOM = 7,  /* a header of a list with more pages (need) than `pages` has room for (have) */
+    VMBUS_LIST_MISUSED = 8,  /* the numbers of `list` are none that these calls leave, or `pages` is shorter than its list */
+};
+
+/* Takes the header or the body that the bytes are, all of them: enum vmbus_list_answer. The first answer of the list above that holds comes, but that MISUSED is tested first. `live` are the
+   handles of the lists that are live; whoever hears WHOLE puts list->gpadl among them, until it is torn down. `list` and `pages` are the same from a list's header on until it is whole. What isn't
+   WHOLE or MORE changes neither of them. */
+uint32_t vmbus_gpadl_take(const uint8_t *bytes, size_t len, const uint32_t *live, size_t lives, struct vmbus_page_list *list, uint64_t *pages, size_t room, struct vmbus_fault *fault);
+
+/* ---- Packets (crates/vmbus_c). ---- */
 
 /* A packet's descriptor; offset and length in words of 8 bytes. */
 struct vmbus_packet {
@@ -114,6 +193,24 @@ struct vmbus_range {
     uint32_t bytes, offset, frames_at, frames;
 };
 uint32_t vmbus_packet_range(const uint64_t *words, size_t len, uint32_t at, struct vmbus_range *range);
+
+/* A packet of type 7, with flags 1, that names ranges of the buffer with the number pageset (Linux struct vmtransfer_page_packet_header, drivers/net/hyperv/netvsc.c): a word for each range, and
+   then the payload, padded as above. len is then how many words it has, also where there is no room. VMBUS_NO_FORM where that is more than VMBUS_PACKET_MOST, or pageset has more than 16 bits;
+   then len stays. */
+struct vmbus_part {
+    uint32_t bytes, offset;
+};
+uint32_t vmbus_packet_transfer(uint64_t tid, uint32_t pageset, const struct vmbus_part *parts, size_t count, const uint8_t *payload, size_t bytes, uint64_t *out, size_t room, size_t *len);
+
+/* What the packet of type 7 that the words are names: 0. 1, and then nothing is written, where they are no packet of type 7 (vmbus_packet_read). */
+struct vmbus_transfer {
+    uint32_t pageset, parts; /* the number of the buffer, and how many ranges there are */
+};
+uint32_t vmbus_packet_transfer_read(const uint64_t *words, size_t len, struct vmbus_transfer *transfer);
+
+/* Range `number`, from 0 on, of that packet: 0. Nothing is written where they are no packet of type 7 (1), or else where it has no such range (2). Whether a range lies in the buffer is for the
+   caller to test. */
+uint32_t vmbus_packet_part(const uint64_t *words, size_t len, uint32_t number, struct vmbus_part *part);
 
 /* The numbers of a storage packet; 52 bytes follow them. */
 struct vmbus_storage {

@@ -1,66 +1,62 @@
-//! Times the end that keeps no packet, on atomic words: a send, a take and a commit in turn, on one thread. Its words are numbers, in this order: how many packets a round has, how many rounds, the
-//! bytes of a packet; a word that is no number is passed over. The quickest round goes to standard error, in picoseconds a packet. Without a word it times a little.
+//! Times the end that keeps no packet, on atomic words. Its words say what is timed; then come numbers, in this order: how many packets or calls a round has, how many rounds, the bytes of a packet,
+//! the window. Figures go to standard error, in picoseconds. Without a word everything is timed in small.
+//!
+//!     turns COUNT ROUNDS BYTES                  a packet on one thread, the least of all rounds
+//!     window COUNT 1 BYTES WINDOW               a request on two threads, and how many signals were raised
+//!     ping spins|sleeps|parks COUNT 1 BYTES     there and back on two threads, in nanoseconds: the median, the 99th of 100, the worst
+//!     calls COUNT ROUNDS                        an empty take, a poll, a wake-up with its packet, a send into a full ring
+//!     bad COUNT ROUNDS                          a stop at an index in no form
+//!     space COUNT                               nothing is timed: so many ends stand at once
 #![tactic(auto)]
 
-mod ends;
-mod turns;
+mod bad;
 
-use std::alloc::{AllocError, Global};
+use driver_port::DriverPort;
+use ring_port::{Part, Wanted};
+use ring_times::tell;
+use std::alloc::Global;
 use std::rt::Runtime;
+use std::sync::Wait;
+use std::thread::Threads;
 use std::{env, io};
 
-/// How many packets a round has, how many rounds there are, and the bytes of a packet.
-#[derive(Clone, Copy)]
-struct Wanted {
-    count: u64,
-    rounds: u64,
-    bytes: u64,
-    given: u32,
-}
-
-impl Wanted {
-    // Takes in one more number.
-    fn read(&mut self, n: u64) {
-        match self.given {
-            0 => self.count = n,
-            1 => self.rounds = n,
-            _ => self.bytes = n,
-        }
-        self.given = self.given.saturating_add(1);
-    }
-}
-
-// The words of a packet in band of n words, each word of its payload the same.
-fn words(alloc: Global, n: u64) -> Result<Vec<u64>, AllocError> {
-    let mut words = Vec::new(alloc);
-    words.push(n.wrapping_mul(0x1_0000_0000).wrapping_add(0x2_0006))?;
-    for _ in 1..n {
-        words.push(0x9e37_79b9_7f4a_7c15u64)?;
-    }
-    Ok(words)
-}
-
-fn tell<R: Runtime>(rt: &R, alloc: Global, wanted: Wanted, p: &[u64]) -> io::Result<()> {
+fn tell_bad<R: Runtime>(rt: &R, alloc: Global, w: Wanted) -> io::Result<()> {
     let mut best = u128::MAX;
-    for _ in 0..wanted.rounds {
-        best = best.min(turns::round(rt, alloc, p, wanted.count)?);
+    for _ in 0..w.rounds {
+        best = best.min(bad::round(rt, alloc, w.count)?);
     }
-    eprintln!(rt; "turns {best}")
+    eprintln!(rt; "bad {best}")
+}
+
+fn tell_space<R: Runtime>(rt: &R, alloc: Global, w: Wanted) -> io::Result<()> {
+    let ends = bad::ends(alloc, w.count)?;
+    let count = ends.len();
+    eprintln!(rt; "space {count}")
+}
+
+// Tells each part, in small.
+fn tell_all<R: Runtime + Threads + Wait + Sync>(
+    rt: &R,
+    alloc: Global,
+    w: Wanted,
+) -> io::Result<()> {
+    for part in [Part::Turns, Part::Window, Part::Ping, Part::Calls] {
+        tell::<R, DriverPort>(rt, alloc, Wanted { part, ..w })?;
+    }
+    tell_bad(rt, alloc, w)?;
+    tell_space(rt, alloc, w)
 }
 
 fn main(rt: HostRuntime) -> io::Result<()> {
     let alloc = rt.alloc();
-    let mut wanted = Wanted {
-        count: 100,
-        rounds: 2,
-        bytes: 24,
-        given: 0,
-    };
+    let mut w = Wanted::small();
     for word in env::args(&rt)?.skip(1) {
-        if let Ok(n) = word.parse() {
-            wanted.read(n);
-        }
+        w.read(&word);
     }
-    let p = words(alloc, wanted.bytes / 8)?;
-    tell(&rt, alloc, wanted, &p)
+    match w.part {
+        Part::All => tell_all(&rt, alloc, w),
+        Part::Bad => tell_bad(&rt, alloc, w),
+        Part::Space => tell_space(&rt, alloc, w),
+        _ => tell::<_, DriverPort>(&rt, alloc, w),
+    }
 }

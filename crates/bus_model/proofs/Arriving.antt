@@ -6,7 +6,7 @@ use Rattle.io_edge.specs.declared.side.Side.{Side}
 use Rattle.io_edge.specs.declared.side.Side.TheVariants.{Guest, Host}
 use Rattle.ring_pair_laws.specs.Lists.{Lists}
 use Rattle.channel_model.specs.Roles.{side_that_asks}
-use Rattle.bus_model.specs.Served.{Served}
+use Rattle.device_kinds.specs.Served.{Served}
 use Rattle.device_formats.specs.declared.want.Want.TheVariants.{Script}
 use Rattle.channel_model.specs.Channel.{count_of}
 use Rattle.bus_model.specs.Orders.{Order}

@@ -14,7 +14,7 @@ use Rattle.device_formats.proofs.ChannelScriptLaws.{few_starts}
 use Rattle.device_formats.proofs.FormatLaws.{keeps, start_is_fixed, script_asks, asked_is}
 use Rattle.channel_model.specs.Channel.{count_of}
 use Rattle.channel_model.specs.Roles.{side_that_asks}
-use Rattle.bus_model.specs.Served.{Served}
+use Rattle.device_kinds.specs.Served.{Served}
 use Rattle.bus_model.specs.Orders.{Order, startup_of, plan_of}
 use Rattle.script_phases.specs.Openings.{Phase, Opening}
 use Rattle.bus_model.specs.Orders.{order_of}

@@ -12,7 +12,7 @@ use Rattle.script_lines.specs.Lines.{is_phase}
 use Rattle.script_lines.specs.Parts.{ends_part, parts, offered}
 use Rattle.bus_script.specs.Report.{prints, tells}
 use Rattle.bus_script.specs.declared.outcome.LineResult.{LineResult}
-use Rattle.bus_model.specs.Logs.{Recorded}
+use Rattle.device_kinds.specs.Logs.{Recorded}
 use Rattle.bus_model.specs.declared.channel_run.ChannelRun.{ChannelRun}
 use Rattle.script_phases.specs.Agreed.{agreed_in}
 use Rattle.script_phases.specs.Openings.{Phase, phases_from}

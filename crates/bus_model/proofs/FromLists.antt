@@ -20,7 +20,7 @@ use Rattle.channel_model.specs.Asker.{Encoded}
 use Rattle.channel_model.specs.Channel.{AllFixed, count_of, IsProtocolRun}
 use Rattle.channel_model.specs.Outcome.{Outcome, Unserved, done_of, served_of, outcomes_of as work_outcomes}
 use Rattle.channel_model.proofs.Outcomes.{lines}
-use Rattle.bus_model.specs.Served.{Served, done_of as line_done}
+use Rattle.device_kinds.specs.Served.{Served, done_of as line_done}
 use Rattle.bus_model.specs.Orders.{Order, plan_of, startup_of}
 use Rattle.bus_model.specs.Channel.{script_ids, asked_under, served_count, replies_to, rescinded_of, outcomes_by}
 use Rattle.bus_model.specs.Laws.{ServesFirst, AsksAsScripted, ListsTell, line_of}

@@ -5,7 +5,7 @@ use Rattle.std.specs.List.{AllByRecursion, flat_map}
 use Rattle.std.proofs.lemmas.List.{map-append}
 use Rattle.script_phases.specs.Openings.{Opening, Phase, phases}
 use Rattle.bus_script.specs.declared.outcome.LineResult.{LineResult}
-use Rattle.bus_model.specs.Logs.{Recorded}
+use Rattle.device_kinds.specs.Logs.{Recorded}
 use Rattle.bus_model.specs.Run.{Carried, IsCarried, PhaseRuns, RunsOf, over, then_on}
 use Rattle.bus_model.specs.Laws.{carried_at, opened_at, CarriesOpened}
 use Rattle.bus_model.specs.declared.channel_run.ChannelRun.{ChannelRun}

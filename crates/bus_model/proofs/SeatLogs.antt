@@ -6,8 +6,8 @@ use Rattle.std.proofs.lemmas.List.{nil_from_length}
 use Rattle.std.proofs.lemmas.Bool.Decides.{nat_tests}
 use Rattle.scsi_disk.proofs.RoomLaws.{by_test}
 use Rattle.script_lines.specs.declared.line.Ask.{Ask}
-use Rattle.bus_model.specs.Served.{Served}
-use Rattle.bus_model.specs.Logs.{Recorded, served_from, EachSeat, total, Grows}
+use Rattle.device_kinds.specs.Served.{Served}
+use Rattle.device_kinds.specs.Logs.{Recorded, served_from, EachSeat, total, Grows}
 use Rattle.bus_model.proofs.Lists.{each_append, each_unless}
 
 length_if : (c : Bool) (x : Served) (xs : List Served) → length (cond c (x ∷ xs) xs) ≡ cond c 1 0 + length xs

@@ -13,10 +13,10 @@ use Rattle.channel_model.specs.Channel.{count_of, held_of}
 use Rattle.channel_model.specs.Roles.{side_that_asks}
 use Rattle.bus_script.specs.declared.outcome.LineResult.{LineResult}
 use Rattle.bus_script.specs.declared.outcome.LineResult.TheVariants.{Unserved}
-use Rattle.bus_model.specs.Served.{Served, done_of}
+use Rattle.device_kinds.specs.Served.{Served, done_of}
 use Rattle.bus_model.specs.Orders.{Order, order_of}
 use Rattle.bus_model.specs.Channel.{IsChannelRun, asked_by, served_count, rescinded_of, outcomes_by, outcomes_of}
-use Rattle.bus_model.specs.Logs.{Recorded, Grows, served_from, total}
+use Rattle.device_kinds.specs.Logs.{Recorded, Grows, served_from, total}
 use Rattle.bus_model.specs.Run.{Carried, IsCarried, seats_of, EachGrows}
 use Rattle.bus_model.specs.Laws.{Rescinds, UnservedNowhere, was_served}
 use Rattle.bus_model.proofs.Lists.{IfThere, at_get, each_filter}

@@ -4,7 +4,7 @@ use Rattle.std.specs.Prelude.{map, nat_le, take, drop, replicate, if◌then◌el
 use Rattle.std.proofs.lemmas.Bool.Decides.{nat_tests}
 use Rattle.bus_script.specs.declared.outcome.LineResult.TheVariants.{Unserved, Gone, Closed}
 use Rattle.channel_model.specs.Channel.{count_of}
-use Rattle.bus_model.specs.Served.{Served, done_of}
+use Rattle.device_kinds.specs.Served.{Served, done_of}
 use Rattle.script_phases.specs.Says.{asks_of, is_shut}
 use Rattle.bus_model.specs.Orders.{Order}
 use Rattle.bus_model.specs.Channel.{rescinded_of, outcomes_by, outcomes_of}

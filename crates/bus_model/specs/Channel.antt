@@ -12,7 +12,7 @@ use Rattle.ring_pair_laws.specs.Lists.{Lists}
 use Rattle.channel_model.specs.Channel.{count_of, held_of, IsProtocolRun}
 use Rattle.channel_model.specs.Roles.{side_that_asks}
 use Rattle.channel_model.specs.Server.{answered}
-use Rattle.bus_model.specs.Served.{Served, done_of}
+use Rattle.device_kinds.specs.Served.{Served, done_of}
 use Rattle.bus_model.specs.Orders.{Order, plan_of, startup_of}
 
 -- what the end of this side sent and got

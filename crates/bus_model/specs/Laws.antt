@@ -20,13 +20,13 @@ use Rattle.ring_pair_laws.specs.Lists.{Lists}
 use Rattle.channel_model.specs.Outcome.{Outcome, Done as IsDone, RescindedServed as IsRescinded, Unserved as IsUnserved, lines_of}
 use Rattle.channel_model.specs.Acks.{acks_for}
 use Rattle.channel_model.specs.Roles.{side_that_asks}
-use Rattle.bus_model.specs.Served.{Served, done_of}
+use Rattle.device_kinds.specs.Served.{Served, done_of}
 use Rattle.bus_model.specs.Orders.{Order, order_of, startup_of}
 use Rattle.bus_model.specs.Channel.{IsChannelRun, Carries, asked_under, asked_by, sent_by, other, served_count, is_held, replies_to, rescinded_of, outcomes_of}
-use Rattle.bus_model.specs.Logs.{Recorded, served_from}
+use Rattle.device_kinds.specs.Logs.{Recorded, served_from}
 use Rattle.bus_model.specs.Run.{Carried, IsBusRun, PhaseRuns, Known, seats_of, source_said, told_by}
 use Rattle.bus_model.specs.declared.channel_run.ChannelRun.{ChannelRun}
-use Rattle.bus_model.specs.declared.history.DeviceHistory.{DeviceHistory}
+use Rattle.device_kinds.specs.declared.history.DeviceHistory.{DeviceHistory}
 
 -- what each end got is a front of what the other one sent, as it was sent, and all of it where the service doesn't stop; a guest that asks got all that its host sent
 pub record Arrived (order : Order) (lists : Lists) : Type 0 where

@@ -11,12 +11,12 @@ use Rattle.script_phases.specs.Says.{asks_of, is_rescinded, is_shut}
 use Rattle.script_phases.specs.Openings.{Opening, Phase, phases, by_relid}
 use Rattle.bus_script.specs.declared.outcome.LineResult.{LineResult}
 use Rattle.bus_script.specs.declared.outcome.LineResult.TheVariants.{Version as Agreed, Modified, Unsupported, Gone, Closed}
-use Rattle.bus_model.specs.Served.{Served}
+use Rattle.device_kinds.specs.Served.{Served}
 use Rattle.bus_model.specs.Orders.{order_of}
 use Rattle.bus_model.specs.Channel.{IsChannelRun, outcomes_of}
-use Rattle.bus_model.specs.Logs.{Recorded, Grows, EachHistory, log_of}
+use Rattle.device_kinds.specs.Logs.{Recorded, Grows, EachHistory, log_of}
 use Rattle.bus_model.specs.declared.channel_run.ChannelRun.{ChannelRun}
-use Rattle.bus_model.specs.declared.history.DeviceHistory.{DeviceHistory}
+use Rattle.device_kinds.specs.declared.history.DeviceHistory.{DeviceHistory}
 
 -- a channel in one phase: what was opened, what it carried, and what it served
 pub record Carried : Type 0 where

@@ -13,10 +13,10 @@ use Rattle.bus_script.specs.declared.outcome.Reply.{Reply}
 use Rattle.device_formats.specs.Wants.{IsAskable}
 use Rattle.device_formats.specs.Formats.{fits_on}
 use Rattle.ring_pair_laws.specs.Lists.{Lists}
-use Rattle.bus_model.specs.Served.{Served}
+use Rattle.device_kinds.specs.Served.{Served}
 use Rattle.bus_model.specs.Orders.{Order}
 use Rattle.bus_model.specs.Channel.{IsChannelRun, outcomes_of}
-use Rattle.bus_model.specs.Logs.{Recorded}
+use Rattle.device_kinds.specs.Logs.{Recorded}
 use Rattle.bus_model.specs.Run.{RunsOf}
 use Rattle.bus_model.specs.Laws.{carried_at}
 use Rattle.bus_model.specs.declared.channel_run.ChannelRun.{ChannelRun}

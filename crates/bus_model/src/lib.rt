@@ -2,11 +2,10 @@
 #![tactic(auto)]
 
 mod channel_run;
-mod history;
 mod laws;
 
 pub use channel_run::ChannelRun;
-pub use history::DeviceHistory;
+pub use device_kinds::DeviceHistory;
 pub use laws::{
     arrives, carries_opened, completes_each, lists_tell, one_each, orders_run, rescinds,
     serves_each, serves_first, table, worked,

@@ -13,7 +13,7 @@ use Rattle.bus_script.specs.declared.outcome.Reply.{Reply}
 use Rattle.bus_script.specs.declared.outcome.LineResult.{LineResult}
 use Rattle.bus_script.specs.declared.outcome.LineResult.TheVariants.{Unserved}
 use Rattle.bus_script.specs.Report.{reply_runs, result_runs}
-use Rattle.bus_model.specs.Served.{Served, done_of}
+use Rattle.device_kinds.specs.Served.{Served, done_of}
 use Rattle.bus_model.specs.Channel.{asked_under, rescinded_of, outcomes_by}
 use Rattle.bus_model.proofs.Lists.{IfThere}
 use Rattle.bus_report_bound.specs.Laws.{data_of}

@@ -28,10 +28,10 @@ use Rattle.bus_script.specs.Report.{prints, result_runs, runs_back}
 use Rattle.script_lines.proofs.Plain.{PlainAsk, PlainSays, PlainLine, script_plain}
 use Rattle.channel_model.specs.Roles.{side_that_asks}
 use Rattle.device_formats.specs.Formats.{asked_as}
-use Rattle.bus_model.specs.Served.{Served}
+use Rattle.device_kinds.specs.Served.{Served}
 use Rattle.bus_model.specs.Orders.{order_of}
 use Rattle.bus_model.specs.Channel.{asked_under, asked_by, served_count}
-use Rattle.bus_model.specs.Logs.{Recorded}
+use Rattle.device_kinds.specs.Logs.{Recorded}
 use Rattle.bus_model.specs.Run.{Carried, IsCarried, seats_of, EachGrows, Source, Known, AskedOf, known_or, modified_by, source_of, sources_from, outcome_at, PhaseRuns, RunsOf, over, then_on}
 use Rattle.bus_model.specs.declared.channel_run.ChannelRun.{ChannelRun}
 use Rattle.bus_model.proofs.Counting.{one_each_lem}

@@ -32,10 +32,10 @@ use Rattle.script_lines.specs.Parts.{bads_of}
 use Rattle.script_lines.specs.WellFormed.{IsDevice}
 use Rattle.script_lines.proofs.Plain.{PlainAsk}
 use Rattle.bus_script.specs.Report.{disk_runs, net_runs}
-use Rattle.bus_model.specs.Served.{message_asked}
-use Rattle.bus_model.specs.Logs.{Recorded, ic_log, disk_log, net_log, log_of, new_station, IsHistory, EachHistory}
-use Rattle.bus_model.specs.declared.history.DeviceHistory.{DeviceHistory}
-use Rattle.bus_model.specs.declared.history.DeviceHistory.TheVariants.{Beat as BeatHistory, Down as DownHistory, Disk as DiskHistory, Net as NetHistory}
+use Rattle.device_kinds.specs.Served.{message_asked}
+use Rattle.device_kinds.specs.Logs.{Recorded, ic_calls, disk_calls, net_calls, log_by, log_of, new_station, IsHistory, EachHistory}
+use Rattle.device_kinds.specs.declared.history.DeviceHistory.{DeviceHistory}
+use Rattle.device_kinds.specs.declared.history.DeviceHistory.TheVariants.{Beat as BeatHistory, Down as DownHistory, Disk as DiskHistory, Net as NetHistory}
 use Rattle.bus_report_bound.specs.Laws.{data_of}
 use Rattle.bus_report_bound.proofs.Along.{FewReply}
 use Rattle.bus_report_bound.proofs.OneByte.{entries_few}
@@ -49,15 +49,15 @@ PlainLog log = AllByRecursion (λ e. PlainAsk e.ask) log
 abbrev pub FewLog : List Recorded → Type 0
 FewLog log = AllByRecursion (λ e. FewReply e.ask e.reply) log
 
-ic_few : {S : Type 0} (es : List (Entry S IcAsk IcAnswer)) → FewLog (ic_log es)
+ic_few : {S : Type 0} (es : List (Entry S IcAsk IcAnswer)) → FewLog (log_by ic_calls es)
 ic_few [] = tt
 ic_few (e ∷ es) = (omega arith, ic_few es)
 
-disk_ones : {S : Type 0} (es : List (Entry S DiskRequest DiskReply)) → PlainLog (disk_log es) → AllByRecursion (λ e. IsOneByte e.request.out) es
+disk_ones : {S : Type 0} (es : List (Entry S DiskRequest DiskReply)) → PlainLog (log_by disk_calls es) → AllByRecursion (λ e. IsOneByte e.request.out) es
 disk_ones [] plain = tt
 disk_ones (e ∷ es) plain = (plain.0, disk_ones es plain.1)
 
-disk_few : {S : Type 0} (es : List (Entry S DiskRequest DiskReply)) → AllByRecursion (λ e. disk_runs e.reply ≤ 36) es → FewLog (disk_log es)
+disk_few : {S : Type 0} (es : List (Entry S DiskRequest DiskReply)) → AllByRecursion (λ e. disk_runs e.reply ≤ 36) es → FewLog (log_by disk_calls es)
 disk_few [] few = tt
 disk_few (e ∷ es) few = (omega (arith, few.0), disk_few es few.1)
 
@@ -118,7 +118,7 @@ station_few s (Ok (Keepalive request_id)) has = few_of_body (KeepaliveComplete r
 station_few s (Ok m) has = omega arith
 
 -- its addresses stay
-net_few : {S : Type 0} (s : Station) (es : List (Entry S (Result Rndis RndisFault) NetReply)) → HasAddresses s → IsLegal station_after station_reply s es → FewLog (net_log es)
+net_few : {S : Type 0} (s : Station) (es : List (Entry S (Result Rndis RndisFault) NetReply)) → HasAddresses s → IsLegal station_after station_reply s es → FewLog (log_by net_calls es)
 net_few s [] has log = tt
 net_few s (e ∷ es) has log =
     (subst (λ (r : NetReply). net_runs r.back ≤ 40 + data_of (message_asked e.request)) (sym log.0) (station_few s e.request has), net_few (station_after s e.request) es (record { mac = has.mac; station = has.station }) log.1)

@@ -3,8 +3,8 @@ use Rattle.std.proofs.Common.{ℕ, ◌+◌, List, [], ◌∷◌, length, nat_eq,
 use Rattle.std.specs.List.{AllByRecursion}
 use Rattle.script_lines.specs.declared.line.Ask.{Ask}
 use Rattle.bus_script.specs.declared.outcome.Reply.{Reply}
-use Rattle.bus_model.specs.Served.{Served}
-use Rattle.bus_model.specs.Logs.{Recorded, served_from, EachSeat, Grows}
+use Rattle.device_kinds.specs.Served.{Served}
+use Rattle.device_kinds.specs.Logs.{Recorded, served_from, EachSeat, Grows}
 use Rattle.bus_model.proofs.Lists.{each_left, each_right, each_if}
 
 module _ (Q : Ask → Reply → Type 0) where

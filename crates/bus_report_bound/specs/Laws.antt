@@ -13,7 +13,7 @@ use Rattle.bus_script.specs.declared.outcome.LineResult.{LineResult}
 use Rattle.bus_script.specs.Report.{runs_back}
 use Rattle.bus_model.specs.Run.{IsBusRun}
 use Rattle.bus_model.specs.declared.channel_run.ChannelRun.{ChannelRun}
-use Rattle.bus_model.specs.declared.history.DeviceHistory.{DeviceHistory}
+use Rattle.device_kinds.specs.declared.history.DeviceHistory.{DeviceHistory}
 
 -- how many bytes the buffer of a message for an adapter has
 abbrev pub data_of : Ask → ℕ

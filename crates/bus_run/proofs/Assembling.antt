@@ -5,16 +5,17 @@ use Rattle.std.specs.List.{AllByRecursion}
 use Rattle.std.proofs.lemmas.List.{append-nil, get_or_default}
 use Rattle.std.proofs.lemmas.List.Sums.{sum_by-cons}
 use Rattle.std.proofs.lemmas.Simd.{map-map}
+use Rattle.script_lines.specs.Parts.{kind_of}
 use Rattle.script_phases.specs.Openings.{Opening, Phase, by_relid}
-use Rattle.bus_model.specs.Logs.{Grows, total}
+use Rattle.device_kinds.specs.Logs.{Grows, total}
 use Rattle.bus_model.specs.Orders.{order_of}
 use Rattle.bus_model.specs.Channel.{IsChannelRun, outcomes_of}
 use Rattle.bus_model.specs.Run.{Carried, IsCarried, EachGrows, seats_of}
 use Rattle.bus_model.proofs.Arriving.{serves_each_lem}
 use Rattle.bus_model.specs.declared.channel_run.ChannelRun.{ChannelRun}
 use Rattle.bus_script.specs.declared.outcome.LineResult.{LineResult}
-use Rattle.worker_pair.specs.Seats.{kind_at, served_at, IsSameSeat}
-use Rattle.worker_pair.specs.declared.device_seat.DeviceSeat.{DeviceSeat}
+use Rattle.device_any.specs.Seats.{kind_at, served_at, IsSameSeat}
+use Rattle.device_any.specs.declared.device_seat.DeviceSeat.{DeviceSeat}
 use Rattle.bus_threads.specs.Pairs.{EachRuns, Pairing}
 use Rattle.bus_threads.specs.declared.pair.PairDone.{PairDone}
 use Rattle.bus_plan.specs.Plans.{EachOf, IsOrdered, order_by}
@@ -23,20 +24,18 @@ use Rattle.bus_run.specs.Channels.{CanRun, ChannelsRan, IsOf}
 use Rattle.bus_run.specs.Closing.{AllBack, AllClosed, AllCome, AreWhole, Closed, IsClosed, RanAt, closed_of, run_of, told_of}
 use Rattle.bus_run.specs.Due.{due_of}
 use Rattle.bus_run.specs.declared.due.Due.{Due}
-use Rattle.bus_run.specs.DeviceSlot.{slot_at, slot_log, spec_of, setup_of, GoesOn, IsKept, IsReady}
-use Rattle.bus_run.specs.Opening.{AllOpened, AreAway, CanOpen, CanOpenAll, Given, OpensAt, order_at, orders_of, quotas_of, seats_at, seats_given}
-use Rattle.bus_run.specs.Seats.{AreSeatsFor, ComesBack, EachWith, IsAway, kind_in, seats_in}
-use Rattle.bus_run.specs.declared.device_slot.DeviceSlot.{DeviceSlot}
-use Rattle.bus_run.specs.declared.device_slot.DeviceSlot.TheVariants.{Out}
-use Rattle.bus_run.specs.declared.seats.Seats.{Seats}
-use Rattle.bus_run.specs.declared.seats.Seats.TheVariants.{None as NoSeats, Beat as BeatSeats, Down as DownSeats, Disk as DiskSeats, Net as NetSeats}
+use Rattle.bus_run.specs.Devices.{IsReady, box_at, gone}
+use Rattle.device_any.specs.Boxes.{AreSeatsFor, ComesBack, EachWith, GoesOn, IsKept, box_log, kind_in, seats_in, setup_of, spec_of}
+use Rattle.device_any.specs.declared.device_box.DeviceBox.{DeviceBox}
+use Rattle.bus_run.specs.Opening.{AllOpened, AreAway, CanOpen, CanOpenAll, Given, IsAway, IsStill, OpensAt, order_at, orders_of, quotas_of, seats_given}
 use Rattle.bus_run.specs.declared.settings.Settings.{Settings}
-use Rattle.bus_run.proofs.Opened.{room_here}
+use Rattle.device_any.proofs.Uniting.{kind_opened}
+use Rattle.bus_run.proofs.Opened.{room_here, still_on}
 use Rattle.bus_run.proofs.ServedLines.{no_more}
 
 -- the channels ran
 
-each_ran : (settings : List Settings) (old : List DeviceSlot) (given : List Given) (pairs : List Pairing) (dones : List PairDone) → EachWith (OpensAt settings old) given pairs → EachRuns pairs dones → EachWith (RanAt old) given dones
+each_ran : (settings : List Settings) (old : List DeviceBox) (given : List Given) (pairs : List Pairing) (dones : List PairDone) → EachWith (OpensAt settings old) given pairs → EachRuns pairs dones → EachWith (RanAt old) given dones
 each_ran settings old [] [] [] each runs = tt
 each_ran settings old [] [] (d ∷ dones) each runs = absurd runs
 each_ran settings old [] (q ∷ pairs) dones each runs = absurd each
@@ -44,16 +43,16 @@ each_ran settings old (g ∷ given) [] dones each runs = absurd each
 each_ran settings old (g ∷ given) (q ∷ pairs) [] each runs = absurd runs
 each_ran settings old (g ∷ given) (q ∷ pairs) (d ∷ dones) each runs = (runs.0.runs (order_at old g.order) g.seat [] each.0.opens, each_ran settings old given pairs dones each.1 runs.1)
 
-all_within : (plan : List ChannelOrder) (old : List DeviceSlot) → AllByRecursion (CanOpen old) plan → AllByRecursion (λ x. x.opening.device < length old) plan
+all_within : (plan : List ChannelOrder) (old : List DeviceBox) → AllByRecursion (CanOpen old) plan → AllByRecursion (λ x. x.opening.device < length old) plan
 all_within [] old can = tt
 all_within (x ∷ plan) old can = (can.0.within, all_within plan old can.1)
 
-all_fit : (old : List DeviceSlot) (before seats : List Seats) (given : List Given) → ((k : ℕ) → k < length old → kind_in (seats_at seats k) ≡ kind_in (seats_at before k)) → AllByRecursion (λ (g : Given). g.order.opening.device < length old) given
-    → AllByRecursion (λ (g : Given). kind_in (seats_at before g.order.opening.device) ≡ Some (kind_at g.seat)) given → AllByRecursion (λ (g : Given). kind_in (seats_at seats g.order.opening.device) ≡ Some (kind_at g.seat)) given
-all_fit old before seats [] kinds low fits = tt
-all_fit old before seats (g ∷ given) kinds low fits = (kinds g.order.opening.device low.0 ∙ fits.0, all_fit old before seats given kinds low.1 fits.1)
+all_fit : (old before boxes : List DeviceBox) (given : List Given) → ((k : ℕ) → k < length old → kind_in (box_at boxes k) ≡ kind_in (box_at before k)) → AllByRecursion (λ (g : Given). g.order.opening.device < length old) given
+    → AllByRecursion (λ (g : Given). kind_in (box_at before g.order.opening.device) ≡ Some (kind_at g.seat)) given → AllByRecursion (λ (g : Given). kind_in (box_at boxes g.order.opening.device) ≡ Some (kind_at g.seat)) given
+all_fit old before boxes [] kinds low fits = tt
+all_fit old before boxes (g ∷ given) kinds low fits = (kinds g.order.opening.device low.0 ∙ fits.0, all_fit old before boxes given kinds low.1 fits.1)
 
-given_within : (old : List DeviceSlot) (given : List Given) → AllByRecursion (λ (x : ChannelOrder). x.opening.device < length old) (map (λ (g : Given). g.order) given) → AllByRecursion (λ (g : Given). g.order.opening.device < length old) given
+given_within : (old : List DeviceBox) (given : List Given) → AllByRecursion (λ (x : ChannelOrder). x.opening.device < length old) (map (λ (g : Given). g.order) given) → AllByRecursion (λ (g : Given). g.order.opening.device < length old) given
 given_within old [] low = tt
 given_within old (g ∷ given) low = (low.0, given_within old given low.1)
 
@@ -61,28 +60,28 @@ dues_given : (given : List Given) → map (λ (g : Given). due_of g.order) given
 dues_given [] = refl
 dues_given (g ∷ given) = ap (λ l. due_of g.order ∷ l) (dues_given given)
 
-dues_within : (old : List DeviceSlot) (plan : List ChannelOrder) → AllByRecursion (λ (x : ChannelOrder). x.opening.device < length old) plan → AllByRecursion (λ (d : Due). d.opening.device < length old) (map due_of plan)
+dues_within : (old : List DeviceBox) (plan : List ChannelOrder) → AllByRecursion (λ (x : ChannelOrder). x.opening.device < length old) plan → AllByRecursion (λ (d : Due). d.opening.device < length old) (map due_of plan)
 dues_within old [] low = tt
 dues_within old (x ∷ plan) low = (low.0, dues_within old plan low.1)
 
-pub all_come : (settings : List Settings) (plan : List ChannelOrder) (old held : List DeviceSlot) (before seats : List Seats) (pairs : List Pairing) (dones : List PairDone) → CanOpenAll plan old → AreAway plan old held before → (all : AllOpened settings plan old before seats pairs) → EachRuns pairs dones
-    → AllCome (map due_of plan) old all.opened.given seats dones
-all_come settings plan old held before seats pairs dones can away all runs =
+pub all_come : (settings : List Settings) (plan : List ChannelOrder) (old before boxes : List DeviceBox) (pairs : List Pairing) (dones : List PairDone) → CanOpenAll plan old → AreAway plan old before → (all : AllOpened settings plan old before boxes pairs) → EachRuns pairs dones
+    → AllCome (map due_of plan) old all.opened.given boxes dones
+all_come settings plan old before boxes pairs dones can away all runs =
     let opened = all.opened in
     let within = all_within plan old can.each in
     record {
       planned = dues_given opened.given ∙ ap (map due_of) opened.planned;
       within = dues_within old plan within;
-      places = opened.places ∙ away.places;
-      fits = all_fit old before seats opened.given (λ k less. opened.kinds k (omega (arith, less, away.places)))
+      places = opened.places ∙ away.count;
+      fits = all_fit old before boxes opened.given (λ k less. (opened.still k (omega (arith, less, away.count))).kind)
           (given_within old opened.given (subst (AllByRecursion (λ (x : ChannelOrder). x.opening.device < length old)) (sym opened.planned) within)) opened.fits;
       ran = each_ran settings old opened.given pairs dones opened.opens runs;
-      none_here = λ k less. all.none_left k (omega (arith, less, away.places));
+      none_here = λ k less. all.none_left k (omega (arith, less, away.count));
     }
 
 -- the seats that came back
 
-same_closed : (old : List DeviceSlot) (k : ℕ) (closed : List Closed) → AllByRecursion (IsClosed old) closed → EachWith IsSameSeat (seats_given k (map (λ (c : Closed). c.given) closed)) (map (λ (c : Closed). c.back) (closed_of k closed))
+same_closed : (old : List DeviceBox) (k : ℕ) (closed : List Closed) → AllByRecursion (IsClosed old) closed → EachWith IsSameSeat (seats_given k (map (λ (c : Closed). c.given) closed)) (map (λ (c : Closed). c.back) (closed_of k closed))
 same_closed old k [] all = tt
 same_closed old k (c ∷ closed) all = by_flag (c.given.order.opening.device == k) (filter (λ (g : Given). g.order.opening.device == k) (map (λ (c : Closed). c.given) closed)) (closed_of k closed) all.0.same (same_closed old k closed all.1)
   where
@@ -91,39 +90,32 @@ same_closed old k (c ∷ closed) all = by_flag (c.given.order.opening.device == 
     by_flag true gs cs one more = (one, more)
     by_flag false gs cs one more = more
 
-no_kind : (seats : Seats) → kind_in seats ≡ None → seats ≡ NoSeats
-no_kind NoSeats is = refl
-no_kind (BeatSeats v) is = absurd (cc)
-no_kind (DownSeats v) is = absurd (cc)
-no_kind (DiskSeats v) is = absurd (cc)
-no_kind (NetSeats v) is = absurd (cc)
+comes_back : (old before boxes : DeviceBox) (quotas : List ℕ) (given : List DeviceSeat) → IsKept old → IsAway old quotas before → IsStill before boxes → seats_in before ≡ given → EachWith IsSameSeat given (seats_in boxes) → ComesBack old quotas given boxes
+comes_back old before boxes [] given kept away still dealt same = (still.stays away.1 ∙ away.0, kept)
+comes_back old before boxes (q ∷ quotas) given kept away still dealt same =
+    (kind_opened boxes (kind_of (spec_of old)) (still.kind ∙ away.0), still.subs ∙ away.1, subst (AreSeatsFor old (q ∷ quotas)) dealt away.2, same)
 
-comes_back : (old held : DeviceSlot) (quotas : List ℕ) (before seats : Seats) (given : List DeviceSeat) → IsKept old → IsAway old quotas held before (seats_in before) → kind_in seats ≡ kind_in before → seats_in before ≡ given → EachWith IsSameSeat given (seats_in seats)
-    → ComesBack old quotas given held seats
-comes_back old held [] before seats given kept away kind dealt same = (away.0, no_kind seats (kind ∙ ap kind_in away.1), kept)
-comes_back old held (q ∷ quotas) before seats given kept away kind dealt same = (away.0, kind ∙ away.1, subst (AreSeatsFor old (q ∷ quotas)) dealt away.2, same)
-
-pub all_back : (settings : List Settings) (phase most : ℕ) (plan : List ChannelOrder) (old held : List DeviceSlot) (before between seats : List Seats) (pairs : List Pairing) (settled settled' : List ChannelRun) (outcomes : List (List (List LineResult))) → All (IsReady (4096 * most)) old
-    → AreAway plan old held before → (all : AllOpened settings plan old before between pairs) → AllClosed phase old all.opened.given between seats settled settled' outcomes
-    → AllBack old (λ k. quotas_of k plan) (λ k. seats_given k all.opened.given) held seats
-all_back settings phase most plan old held before between seats pairs settled settled' outcomes ready away all closed =
+pub all_back : (settings : List Settings) (phase most : ℕ) (plan : List ChannelOrder) (old before between boxes : List DeviceBox) (pairs : List Pairing) (settled settled' : List ChannelRun) (outcomes : List (List (List LineResult))) → All (IsReady (4096 * most)) old
+    → AreAway plan old before → (all : AllOpened settings plan old before between pairs) → AllClosed phase old all.opened.given between boxes settled settled' outcomes
+    → AllBack old (λ k. quotas_of k plan) (λ k. seats_given k all.opened.given) boxes
+all_back settings phase most plan old before between boxes pairs settled settled' outcomes ready away all closed =
     let opened = all.opened in
     record {
-      count = away.count;
-      places = closed.places ∙ (opened.places ∙ away.places);
+      count = closed.places ∙ (opened.places ∙ away.count);
       each = λ k less.
-          let low : k < length before = omega (arith, less, away.places) in
+          let low : k < length before = omega (arith, less, away.count) in
           let mid : k < length between = omega (arith, low, opened.places) in
-          let dealt : seats_in (seats_at before k) ≡ seats_given k opened.given = opened.dealt k low ∙ (ap (λ l. seats_given k opened.given ++ l) (all.none_left k low) ∙ append-nil (seats_given k opened.given)) in
-          let same : EachWith IsSameSeat (seats_given k opened.given) (seats_in (seats_at seats k)) =
+          let dealt : seats_in (box_at before k) ≡ seats_given k opened.given = opened.dealt k low ∙ (ap (λ l. seats_given k opened.given ++ l) (all.none_left k low) ∙ append-nil (seats_given k opened.given)) in
+          let same : EachWith IsSameSeat (seats_given k opened.given) (seats_in (box_at boxes k)) =
           subst (EachWith IsSameSeat (seats_given k opened.given)) (sym (closed.back k mid))
           (subst (λ gs. EachWith IsSameSeat (seats_given k gs) (map (λ (c : Closed). c.back) (closed_of k closed.closed))) closed.given_are (same_closed old k closed.closed closed.each)) in
-          comes_back (slot_at old k) (slot_at held k) (quotas_of k plan) (seats_at before k) (seats_at seats k) (seats_given k opened.given) (room_here most plan old k ready less).kept (away.each k less) (closed.kinds k mid ∙ opened.kinds k low) dealt same;
+          comes_back (box_at old k) (box_at before k) (box_at boxes k) (quotas_of k plan) (seats_given k opened.given) (room_here most plan old k ready less).kept (away.each k less)
+          (still_on (box_at before k) (box_at between k) (box_at boxes k) (opened.still k low) (closed.still k mid)) dealt same;
     }
 
 -- what each channel carried
 
-module _ (p : Phase) (phase : ℕ) (old : List DeviceSlot) where
+module _ (p : Phase) (phase : ℕ) (old : List DeviceBox) where
   abbrev Is : Opening → Closed → Type 0
   Is o c = IsOrdered p o c.given.order
 
@@ -152,7 +144,7 @@ module _ (p : Phase) (phase : ℕ) (old : List DeviceSlot) where
 
   -- the order of a channel in the phase
   pub same_order : (o : Opening) (x : ChannelOrder) → IsOrdered p o x → IsOf old o → order_at old x ≡ order_of p o
-  same_order o x is of = ap (λ k. order_by x (spec_of (slot_at old k))) is.device ∙ (ap (order_by x) (sym of.spec) ∙ is.order)
+  same_order o x is of = ap (λ k. order_by x (spec_of (box_at old k))) is.device ∙ (ap (order_by x) (sym of.spec) ∙ is.order)
 
   carried_each : p.number ≡ phase → (os : List Opening) (closed : List Closed) → EachOf Is os closed → AllByRecursion (IsOf old) os → AllByRecursion (IsClosed old) closed → AllByRecursion (IsCarried p) (carried os closed)
   carried_each number [] [] each of all = tt
@@ -181,7 +173,7 @@ module _ (p : Phase) (phase : ℕ) (old : List DeviceSlot) where
 
 -- a device's channels serve no more than they are asked
 
-served_few : (old : List DeviceSlot) (k : ℕ) (closed : List Closed) → AllByRecursion (IsClosed old) closed → total (map (λ (c : Closed). served_at c.back) (closed_of k closed)) ≤ sum (quotas_of k (map (λ (c : Closed). c.given.order) closed))
+served_few : (old : List DeviceBox) (k : ℕ) (closed : List Closed) → AllByRecursion (IsClosed old) closed → total (map (λ (c : Closed). served_at c.back) (closed_of k closed)) ≤ sum (quotas_of k (map (λ (c : Closed). c.given.order) closed))
 served_few old k [] all = omega arith
 served_few old k (c ∷ closed) all =
     let order = order_at old c.given.order in
@@ -195,8 +187,8 @@ served_few old k (c ∷ closed) all =
 
 -- all histories went on
 
-each_grows : (place : ℕ) (channels : List Carried) (old new : List DeviceSlot) → length new ≡ length old → ((k : ℕ) → k < length old → GoesOn (slot_at old k) (slot_at new k) (map (λ c. c.served) (seats_of (place + k) channels)))
-    → EachGrows place channels (map slot_log old) (map slot_log new) × (map spec_of new ≡ map spec_of old) × (map setup_of new ≡ map setup_of old)
+each_grows : (place : ℕ) (channels : List Carried) (old new : List DeviceBox) → length new ≡ length old → ((k : ℕ) → k < length old → GoesOn (box_at old k) (box_at new k) (map (λ c. c.served) (seats_of (place + k) channels)))
+    → EachGrows place channels (map box_log old) (map box_log new) × (map spec_of new ≡ map spec_of old) × (map setup_of new ≡ map setup_of old)
 each_grows place channels [] [] count goes = (tt, refl, refl)
 each_grows place channels [] (n ∷ new) count goes = absurd (omega (arith, count))
 each_grows place channels (o ∷ old) [] count goes = absurd (omega (arith, count))
@@ -204,16 +196,16 @@ each_grows place channels (o ∷ old) (n ∷ new) count goes =
     let first = goes 0 (omega arith) in
     let here : place + 0 ≡ place = omega arith in
     let more = each_grows (place + 1) channels old new (omega (arith, count))
-    (λ k less. let next : place + suc k ≡ (place + 1) + k = omega arith in subst (λ j. GoesOn (slot_at old k) (slot_at new k) (map (λ (c : Carried). c.served) (seats_of j channels))) next (goes (suc k) (omega (arith, less)))) in (
-      (subst (λ j. Grows (slot_log o) (slot_log n) (map (λ (c : Carried). c.served) (seats_of j channels))) here first.grows, more.0),
+    (λ k less. let next : place + suc k ≡ (place + 1) + k = omega arith in subst (λ j. GoesOn (box_at old k) (box_at new k) (map (λ (c : Carried). c.served) (seats_of j channels))) next (goes (suc k) (omega (arith, less)))) in (
+      (subst (λ j. Grows (box_log o) (box_log n) (map (λ (c : Carried). c.served) (seats_of j channels))) here first.grows, more.0),
       ap (λ s. s ∷ map spec_of new) first.spec ∙ ap (λ l. spec_of o ∷ l) more.1,
       ap (λ s. s ∷ map setup_of new) first.setup ∙ ap (λ l. setup_of o ∷ l) more.2,
     )
 
-module _ (settings : List Settings) (phase : ℕ) (plan : List ChannelOrder) (p : Phase) (old held new : List DeviceSlot) (before between seats : List Seats) (pairs : List Pairing) (settled settled' : List ChannelRun) (outcomes : List (List (List LineResult)))
-    (can : CanRun phase plan old p) (away : AreAway plan old held before) (all : AllOpened settings plan old before between pairs) (closed : AllClosed phase old all.opened.given between seats settled settled' outcomes) (whole : AreWhole old new seats) where
+module _ (settings : List Settings) (phase : ℕ) (plan : List ChannelOrder) (p : Phase) (old before between boxes new : List DeviceBox) (pairs : List Pairing) (settled settled' : List ChannelRun) (outcomes : List (List (List LineResult)))
+    (can : CanRun phase plan old p) (away : AreAway plan old before) (all : AllOpened settings plan old before between pairs) (closed : AllClosed phase old all.opened.given between boxes settled settled' outcomes) (whole : AreWhole old boxes new) where
   places : length between ≡ length old
-  places = all.opened.places ∙ away.places
+  places = all.opened.places ∙ away.count
 
   orders : map (λ (c : Closed). c.given.order) closed.closed ≡ plan
   orders = sym (map-map (λ (g : Given). g.order) (λ (c : Closed). c.given) closed.closed) ∙ (ap (map (λ (g : Given). g.order)) closed.given_are ∙ all.opened.planned)
@@ -222,18 +214,18 @@ module _ (settings : List Settings) (phase : ℕ) (plan : List ChannelOrder) (p 
   each = each_closed p phase old (by_relid p.opened) closed.closed (subst (EachOf (IsOrdered p) (by_relid p.opened)) (sym orders) can.ordered)
 
   -- what the seats of a device served
-  served_there : (k : ℕ) → k < length old → map served_at (seats_in (seats_at seats k)) ≡ map (λ (c : Closed). served_at c.back) (closed_of k closed.closed)
+  served_there : (k : ℕ) → k < length old → map served_at (seats_in (box_at boxes k)) ≡ map (λ (c : Closed). served_at c.back) (closed_of k closed.closed)
   served_there k less = ap (map served_at) (closed.back k (omega (arith, less, places))) ∙ map-map served_at (λ (c : Closed). c.back) (closed_of k closed.closed)
 
-  goes_on : (k : ℕ) → k < length old → GoesOn (slot_at old k) (slot_at new k) (map (λ (c : Carried). c.served) (seats_of k (carried p phase old (by_relid p.opened) closed.closed)))
+  goes_on : (k : ℕ) → k < length old → GoesOn (box_at old k) (box_at new k) (map (λ (c : Carried). c.served) (seats_of k (carried p phase old (by_relid p.opened) closed.closed)))
   goes_on k less =
-      subst (GoesOn (slot_at old k) (slot_at new k)) (served_there k less ∙ sym (carried_of p phase old (λ (c : Carried). c.served) (λ (c : Closed). served_at c.back) (λ o c is of. refl) k (by_relid p.opened) closed.closed each can.of)) (whole.each k less)
+      subst (GoesOn (box_at old k) (box_at new k)) (served_there k less ∙ sym (carried_of p phase old (λ (c : Carried). c.served) (λ (c : Closed). served_at c.back) (λ o c is of. refl) k (by_relid p.opened) closed.closed each can.of)) (whole.each k less)
 
   pub channels_ran : ChannelsRan p old new settled settled' outcomes
   channels_ran =
       let os = by_relid p.opened in
       let channels = carried p phase old os closed.closed in
-      let goes = each_grows 0 channels old new whole.count (λ k less. let same : k ≡ 0 + k = omega arith in subst (λ j. GoesOn (slot_at old k) (slot_at new k) (map (λ (c : Carried). c.served) (seats_of j channels))) same (goes_on k less)) in
+      let goes = each_grows 0 channels old new whole.count (λ k less. let same : k ≡ 0 + k = omega arith in subst (λ j. GoesOn (box_at old k) (box_at new k) (map (λ (c : Carried). c.served) (seats_of j channels))) same (goes_on k less)) in
       record {
         channels = channels;
         opened = carried_openings p phase old os closed.closed each;
@@ -253,5 +245,5 @@ module _ (settings : List Settings) (phase : ℕ) (plan : List ChannelOrder) (p 
       let goes = whole.each k within in
       let was = room_here phase plan old k ready within in
       let few : total (map (λ (c : Closed). served_at c.back) (closed_of k closed.closed)) ≤ sum (quotas_of k plan) = subst (λ xs. total (map (λ (c : Closed). served_at c.back) (closed_of k closed.closed)) ≤ sum (quotas_of k xs)) orders (served_few old k closed.closed closed.each) in
-      subst (IsReady (4096 * (phase + 1))) (get_or_default new k (Out 0) d less)
-      (record { kept = goes.kept; few = omega (arith, was.few, few, can.can.asked k within, ap length goes.grows.after_is, length-append (slot_log (slot_at old k)) goes.grows.more, goes.grows.all, ap total (served_there k within)) })
+      subst (IsReady (4096 * (phase + 1))) (get_or_default new k gone d less)
+      (record { kept = goes.kept; few = omega (arith, was.few, few, can.can.asked k within, ap length goes.grows.after_is, length-append (box_log (box_at old k)) goes.grows.more, goes.grows.all, ap total (served_there k within)) })

@@ -12,9 +12,9 @@ use Rattle.script_lines.specs.declared.line.What.TheVariants.{Contact as IsConta
 use Rattle.script_lines.specs.declared.line.DeviceSpec.{DeviceSpec}
 use Rattle.script_lines.specs.Parts.{offered, offered_by, blocks_of, blocks_at, bads_by, bads_of}
 use Rattle.script_lines.specs.WellFormed.{IsRight, AllRight}
-use Rattle.bus_run.specs.DeviceSlot.{spec_of}
+use Rattle.device_any.specs.Boxes.{spec_of}
+use Rattle.device_any.specs.declared.device_box.DeviceBox.{DeviceBox}
 use Rattle.bus_run.specs.Whole.{AreFresh, CanMake}
-use Rattle.bus_run.specs.declared.device_slot.DeviceSlot.{DeviceSlot}
 
 -- one more line
 
@@ -80,7 +80,7 @@ make_line lines front back device (IsShut d) all right is cut = tt
 make_line lines front back device (IsModify d vp) all right is cut = tt
 make_line lines front back device IsPhase all right is cut = tt
 
-pub can_make : (lines : List Line) (i : ℕ) (line : Line) (slots : List DeviceSlot) → AllRight (offered lines) lines → i < length lines → line ≡ get_or lines i line → AreFresh lines (offered (take i lines)) slots → CanMake lines (length slots) line.what
-can_make lines i line slots all less is fresh =
-    make_line lines (offered (take i lines)) (offered (drop (i + 1) lines)) (length slots) line.what all (right_at (offered lines) lines i line all less is)
-    (sym (length-map slots spec_of) ∙ ap length fresh.kinds_are) (offered_cut lines i line less is)
+pub can_make : (lines : List Line) (i : ℕ) (line : Line) (boxes : List DeviceBox) → AllRight (offered lines) lines → i < length lines → line ≡ get_or lines i line → AreFresh lines (offered (take i lines)) boxes → CanMake lines (length boxes) line.what
+can_make lines i line boxes all less is fresh =
+    make_line lines (offered (take i lines)) (offered (drop (i + 1) lines)) (length boxes) line.what all (right_at (offered lines) lines i line all less is)
+    (sym (length-map boxes spec_of) ∙ ap length fresh.kinds_are) (offered_cut lines i line less is)

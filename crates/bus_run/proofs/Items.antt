@@ -3,7 +3,7 @@ use Rattle.std.proofs.Common.{◌≡◌, ℕ, zero, suc, ◌+◌, ◌<◌, Bool,
 use Rattle.std.specs.List.{AllByRecursion}
 use Rattle.std.proofs.lemmas.List.{append-nil, take_more, drop_more}
 use Rattle.std.proofs.lemmas.List.Elements.{filter-append}
-use Rattle.bus_run.specs.Seats.{EachWith}
+use Rattle.device_any.specs.Boxes.{EachWith}
 
 -- the item at a place, and the items before and behind it
 pub record At {X : Type 0} (xs : List X) (i : ℕ) : Type 0 where

@@ -1,9 +1,4 @@
 pub mod Items
-pub mod Histories
-pub mod Growing
-pub mod ManySeats
-pub mod Stays
-pub mod SeatEnds
 pub mod Opened
 pub mod Closed
 pub mod Asking

@@ -17,16 +17,15 @@ use Rattle.bus_run.specs.Channels.{CanRun, IsOf}
 use Rattle.bus_run.specs.Closing.{RanAt}
 use Rattle.bus_run.specs.Opened.{AllRanAsSet, AreOpenAt, HaveLeft, HaveWorked, IsOpenAt, IsOpenedAs, RanAsSet, Worked}
 use Rattle.bus_run.specs.Opening.{AllOpened, Given, IsOpenedWith, OpensAt}
-use Rattle.bus_run.specs.Seats.{EachWith}
+use Rattle.device_any.specs.Boxes.{EachWith}
+use Rattle.device_any.specs.declared.device_box.DeviceBox.{DeviceBox}
 use Rattle.bus_run.specs.Settings.{SettingsOf, unset}
-use Rattle.bus_run.specs.declared.device_slot.DeviceSlot.{DeviceSlot}
-use Rattle.bus_run.specs.declared.seats.Seats.{Seats}
 use Rattle.bus_run.specs.declared.settings.Settings.{Settings}
 use Rattle.bus_run.proofs.Assembling.{same_order}
 use Rattle.bus_run.proofs.Items.{with_long, with_push}
 
 -- each channel has what is ordered of it in the plan, and what is set for its device
-opened_at : (settings : List Settings) (p : Phase) (old : List DeviceSlot) (os : List Opening) (given : List Given) (pairs : List Pairing) → length settings ≡ length old → EachOrdered p os (map (λ (g : Given). g.order) given) → AllByRecursion (IsOf old) os
+opened_at : (settings : List Settings) (p : Phase) (old : List DeviceBox) (os : List Opening) (given : List Given) (pairs : List Pairing) → length settings ≡ length old → EachOrdered p os (map (λ (g : Given). g.order) given) → AllByRecursion (IsOf old) os
     → EachWith (OpensAt settings old) given pairs → EachOf (IsOpenAt settings p) os pairs
 opened_at settings p old [] [] [] count ordered of opens = tt
 opened_at settings p old [] [] (q ∷ pairs) count ordered of opens = absurd opens
@@ -45,7 +44,7 @@ opened_at settings p old (o ∷ os) (g ∷ given) (q ∷ pairs) count ordered of
 )
 
 -- the channels of a phase have worked
-pub have_worked : (phase : ℕ) (settings : List Settings) (p : Phase) (old : List DeviceSlot) (plan : List ChannelOrder) (before seats : List Seats) (pairs : List Pairing) (dones : List PairDone) (settled settled' : List ChannelRun) (work work' : List Worked) (w : Worked) → length settings ≡ length old → CanRun phase plan old p
+pub have_worked : (phase : ℕ) (settings : List Settings) (p : Phase) (old : List DeviceBox) (plan : List ChannelOrder) (before seats : List DeviceBox) (pairs : List Pairing) (dones : List PairDone) (settled settled' : List ChannelRun) (work work' : List Worked) (w : Worked) → length settings ≡ length old → CanRun phase plan old p
     → AllOpened settings plan old before seats pairs → EachRuns pairs dones → HaveLeft settled settled' dones → work' ≡ work ++ w ∷ [] → w.opened ≡ pairs → w.left ≡ dones → HaveWorked settings p settled settled' work work'
 have_worked phase settings p old plan before seats pairs dones settled settled' work work' w count can all runs left is opened_is left_is = record {
   work = w;
@@ -112,6 +111,6 @@ left_more settled mid settled' all dones rest rest' done run so_far are rest_is 
           ∙ (ap (λ l. map carried so_far.runs ++ left done ∷ map left l) rest_is ∙ (ap (λ l. map carried so_far.runs ++ map left l) (sym are) ∙ so_far.carried))));
     }
 
-pub left_end : (settled settled' : List ChannelRun) (all dones : List PairDone) (old : List DeviceSlot) (given : List Given) (i : ℕ) → LeftSoFar settled settled' all dones → length given ≤ i → EachWith (RanAt old) (drop i given) dones → HaveLeft settled settled' all
+pub left_end : (settled settled' : List ChannelRun) (all dones : List PairDone) (old : List DeviceBox) (given : List Given) (i : ℕ) → LeftSoFar settled settled' all dones → length given ≤ i → EachWith (RanAt old) (drop i given) dones → HaveLeft settled settled' all
 left_end settled settled' all [] old given i so_far over each = record { runs = so_far.runs; settled_are = so_far.settled_are; carried = sym (append-nil (map (λ (r : ChannelRun). r.settled) so_far.runs)) ∙ so_far.carried }
 left_end settled settled' all (d ∷ dones) old given i so_far over each = absurd (omega (arith, over, length-drop i given, with_long (RanAt old) (drop i given) (d ∷ dones) each))

@@ -30,14 +30,14 @@ use Rattle.bus_plan.specs.declared.opening.ChannelOrder.{ChannelOrder}
 use Rattle.bus_plan.proofs.Ordering.{all_channels, each_long, sub_count, still_served}
 use Rattle.bus_plan.proofs.Devices.{of_device, channels_here}
 use Rattle.bus_plan.proofs.Dealt.{has_nth}
-use Rattle.bus_run.specs.DeviceSlot.{spec_of, subs_of as subs_beside, slot_at, IsKept, IsReady, Suits}
-use Rattle.bus_run.specs.declared.device_slot.DeviceSlot.TheVariants.{Out, Beat as BeatSlot, Down as DownSlot, Disk as DiskSlot, Net as NetSlot}
+use Rattle.bus_run.specs.Devices.{IsReady, Suits, box_at}
+use Rattle.device_any.specs.Boxes.{spec_of, subs_in}
+use Rattle.device_any.specs.declared.device_box.DeviceBox.{DeviceBox}
 use Rattle.bus_run.specs.Opening.{CanOpen, orders_of, quotas_of}
 use Rattle.bus_run.specs.Channels.{CanRun, ChannelsRan, IsOf}
 use Rattle.bus_run.specs.Whole.{IsThis, PhaseRan, specs_of}
-use Rattle.bus_run.specs.declared.device_slot.DeviceSlot.{DeviceSlot}
 use Rattle.bus_run.proofs.Assembling.{same_order}
-use Rattle.bus_run.proofs.ManySeats.{hits, few_hits}
+use Rattle.device_any.proofs.ManySeats.{hits, few_hits}
 use Rattle.bus_run.proofs.Opened.{room_here}
 use Rattle.bus_run.proofs.Asking.{FitsSays, said_fits, asks_fit, stop_fits, few_all}
 
@@ -159,17 +159,9 @@ quotas_planned p k (o ∷ os) (x ∷ plan) each =
 
 -- how many channels each device has beside the first one
 
-subs_same : (d : DeviceSlot) → IsKept d → subs_of (spec_of d) ≡ subs_beside d
-subs_same (Out subs) kept = absurd kept
-subs_same (BeatSlot state history) kept = refl
-subs_same (DownSlot state history) kept = refl
-subs_same (DiskSlot subs state history) kept = refl
-subs_same (NetSlot state history) kept = refl
-
-pub known_subs : (most : ℕ) (slots : List DeviceSlot) → All (IsReady most) slots → map subs_of (specs_of slots) ≡ map subs_beside slots
-known_subs most [] ready = refl
-known_subs most (d ∷ slots) ready =
-    ap (λ n. n ∷ map subs_of (specs_of slots)) (subs_same d (ready 0 d (omega arith)).kept) ∙ ap (λ l. subs_beside d ∷ l) (known_subs most slots (λ k e less. ready (suc k) e (omega (arith, less))))
+pub known_subs : (boxes : List DeviceBox) → map subs_of (specs_of boxes) ≡ map subs_in boxes
+known_subs [] = refl
+known_subs (d ∷ boxes) = ap (λ l. subs_in d ∷ l) (known_subs boxes)
 
 pub few_subs : (specs : List DeviceSpec) (subs : List ℕ) → AllByRecursion (λ s. subs_of s ≤ 3) specs → map subs_of specs ≡ subs → All (λ n. n ≤ 3) subs
 few_subs specs subs three are = subst (All (λ n. n ≤ 3)) are (from specs three)
@@ -181,10 +173,10 @@ few_subs specs subs three are = subst (All (λ n. n ≤ 3)) are (from specs thre
 
 -- the channels of a phase can run
 
-slot_of_spec : (slots : List DeviceSlot) (k : ℕ) (spec : DeviceSpec) → slice_get (specs_of slots) k ≡ Some spec → (k < length slots) × (spec ≡ spec_of (slot_at slots k))
-slot_of_spec [] k spec is = absurd (cc)
-slot_of_spec (d ∷ slots) zero spec is = (omega arith, cc)
-slot_of_spec (d ∷ slots) (suc k) spec is = let more = slot_of_spec slots k spec is in (omega (arith, more.0), more.1)
+box_of_spec : (boxes : List DeviceBox) (k : ℕ) (spec : DeviceSpec) → slice_get (specs_of boxes) k ≡ Some spec → (k < length boxes) × (spec ≡ spec_of (box_at boxes k))
+box_of_spec [] k spec is = absurd (cc)
+box_of_spec (d ∷ boxes) zero spec is = (omega arith, cc)
+box_of_spec (d ∷ boxes) (suc k) spec is = let more = box_of_spec boxes k spec is in (omega (arith, more.0), more.1)
 
 kind_at : (specs : List DeviceSpec) (k : ℕ) (spec : DeviceSpec) → slice_get specs k ≡ Some spec → slice_get (map kind_of specs) k ≡ Some (kind_of spec)
 kind_at [] k spec is = absurd (cc)
@@ -197,60 +189,59 @@ spec_there (s ∷ specs) zero less = (s, refl)
 spec_there (s ∷ specs) (suc k) less = spec_there specs k (omega (arith, less))
 
 -- a channel of a phase, of one of these devices
-record IsRight (slots : List DeviceSlot) (p : Phase) (o : Opening) : Type 0 where
-  pub of : IsOf slots o
+record IsRight (boxes : List DeviceBox) (p : Phase) (o : Opening) : Type 0 where
+  pub of : IsOf boxes o
   pub sub : o.sub ≤ subs_of o.spec
   pub subs : subs_of o.spec ≤ 3
   pub suits : Suits 4096 (order_of p o)
 
-all_of : (slots : List DeviceSlot) (p : Phase) (os : List Opening) → AllByRecursion (IsRight slots p) os → AllByRecursion (IsOf slots) os
-all_of slots p [] all = tt
-all_of slots p (o ∷ os) all = (all.0.of, all_of slots p os all.1)
+all_of : (boxes : List DeviceBox) (p : Phase) (os : List Opening) → AllByRecursion (IsRight boxes p) os → AllByRecursion (IsOf boxes) os
+all_of boxes p [] all = tt
+all_of boxes p (o ∷ os) all = (all.0.of, all_of boxes p os all.1)
 
-can_open : (most : ℕ) (slots : List DeviceSlot) (p : Phase) (o : Opening) (x : ChannelOrder) → All (IsReady (4096 * most)) slots → IsRight slots p o → IsOrdered p o x → CanOpen slots x
-can_open most slots p o x ready right is =
-    let within : x.opening.device < length slots = omega (arith, is.device, right.of.within) in
+can_open : (most : ℕ) (boxes : List DeviceBox) (p : Phase) (o : Opening) (x : ChannelOrder) → All (IsReady (4096 * most)) boxes → IsRight boxes p o → IsOrdered p o x → CanOpen boxes x
+can_open most boxes p o x ready right is =
+    let within : x.opening.device < length boxes = omega (arith, is.device, right.of.within) in
     let sub : x.opening.sub ≡ o.sub = ap (λ (r : Order). r.sub) is.order in
-    let kept = (room_here most [] slots x.opening.device ready within).kept in
-    let spec : o.spec ≡ spec_of (slot_at slots x.opening.device) = right.of.spec ∙ ap (λ k. spec_of (slot_at slots k)) (sym is.device) in
+    let spec : o.spec ≡ spec_of (box_at boxes x.opening.device) = right.of.spec ∙ ap (λ k. spec_of (box_at boxes k)) (sym is.device) in
     record {
       within = within;
       sub = omega (arith, sub, right.sub, right.subs);
-      subs = omega (arith, subs_same (slot_at slots x.opening.device) kept, ap subs_of spec, right.subs);
-      suits = subst (Suits 4096) (sym (same_order p p.number slots o x is right.of)) right.suits;
+      subs = omega (arith, ap subs_of spec, right.subs);
+      suits = subst (Suits 4096) (sym (same_order p p.number boxes o x is right.of)) right.suits;
     }
 
-all_open : (most : ℕ) (slots : List DeviceSlot) (p : Phase) (os : List Opening) (plan : List ChannelOrder) → All (IsReady (4096 * most)) slots → AllByRecursion (IsRight slots p) os → EachOrdered p os plan → AllByRecursion (CanOpen slots) plan
-all_open most slots p [] [] ready right each = tt
-all_open most slots p [] (x ∷ plan) ready right each = absurd each
-all_open most slots p (o ∷ os) [] ready right each = absurd each
-all_open most slots p (o ∷ os) (x ∷ plan) ready right each = (can_open most slots p o x ready right.0 each.0, all_open most slots p os plan ready right.1 each.1)
+all_open : (most : ℕ) (boxes : List DeviceBox) (p : Phase) (os : List Opening) (plan : List ChannelOrder) → All (IsReady (4096 * most)) boxes → AllByRecursion (IsRight boxes p) os → EachOrdered p os plan → AllByRecursion (CanOpen boxes) plan
+all_open most boxes p [] [] ready right each = tt
+all_open most boxes p [] (x ∷ plan) ready right each = absurd each
+all_open most boxes p (o ∷ os) [] ready right each = absurd each
+all_open most boxes p (o ∷ os) (x ∷ plan) ready right each = (can_open most boxes p o x ready right.0 each.0, all_open most boxes p os plan ready right.1 each.1)
 
 subs_at : (specs : List DeviceSpec) (k : ℕ) (spec : DeviceSpec) → AllByRecursion (λ s. subs_of s ≤ 3) specs → slice_get specs k ≡ Some spec → subs_of spec ≤ 3
 subs_at [] k spec all is = absurd (cc)
 subs_at (s ∷ specs) zero spec all is = let same : s ≡ spec = cc in omega (arith, ap subs_of same, all.0)
 subs_at (s ∷ specs) (suc k) spec all is = subs_at specs k spec all.1 is
 
-pub can_run : (version phase : ℕ) (part : List Line) (ended : List (Option Ending)) (next : ℕ) (plan : List ChannelOrder) (slots : List DeviceSlot) (p : Phase) → IsThis version phase part ended (specs_of slots) next p → EachOrdered p (by_relid p.opened) plan
-    → All (IsReady (4096 * phase)) slots → AllRight (specs_of slots) part → AllGo part → asks_in part ≤ 4096 → AllByRecursion (λ s. subs_of s ≤ 3) (specs_of slots) → sum_by channels_of (specs_of slots) ≤ 16 → CanRun phase plan slots p
-can_run version phase part ended next plan slots p this ordered ready right go few three sixteen =
+pub can_run : (version phase : ℕ) (part : List Line) (ended : List (Option Ending)) (next : ℕ) (plan : List ChannelOrder) (boxes : List DeviceBox) (p : Phase) → IsThis version phase part ended (specs_of boxes) next p → EachOrdered p (by_relid p.opened) plan
+    → All (IsReady (4096 * phase)) boxes → AllRight (specs_of boxes) part → AllGo part → asks_in part ≤ 4096 → AllByRecursion (λ s. subs_of s ≤ 3) (specs_of boxes) → sum_by channels_of (specs_of boxes) ≤ 16 → CanRun phase plan boxes p
+can_run version phase part ended next plan boxes p this ordered ready right go few three sixteen =
     let of = this.of in
     let f = is_opened p.earlier p.part in
-    let specs = specs_of slots in
+    let specs = specs_of boxes in
     let fits : (k : ℕ) → AllByRecursion (λ s. FitsSays specs k s) (said_to k p.part) =
     λ k. subst (λ l. AllByRecursion (λ s. FitsSays specs k s) (said_to k l)) (sym of.part_is) (said_fits specs k part right go) in
     let few_of : (k : ℕ) → length (asks_of k p.part) ≤ 4096 = λ k. omega (arith, few_all k p.part, ap asks_in of.part_is, few) in
-    let all : AllByRecursion (IsRight slots p) (by_relid p.opened) =
-    subst (λ l. AllByRecursion (IsRight slots p) (by_relid l)) (sym of.opened)
-    (each_by_relid (IsRight slots p) (opened_from f 0 next specs)
-    (each_opened (IsRight slots p) f 0 next specs
+    let all : AllByRecursion (IsRight boxes p) (by_relid p.opened) =
+    subst (λ l. AllByRecursion (IsRight boxes p) (by_relid l)) (sym of.opened)
+    (each_by_relid (IsRight boxes p) (opened_from f 0 next specs)
+    (each_opened (IsRight boxes p) f 0 next specs
     (λ j spec is relid sub low.
     let here : j ≡ 0 + j = omega arith in
-    let slot = slot_of_spec slots j spec is in
+    let box = box_of_spec boxes j spec is in
     let kind = kind_at specs j spec is in
-    subst (λ n. IsRight slots p (opening_at relid n spec sub)) here
+    subst (λ n. IsRight boxes p (opening_at relid n spec sub)) here
     (record {
-      of = record { within = slot.0; spec = slot.1 };
+      of = record { within = box.0; spec = box.1 };
       sub = low;
       subs = subs_at specs j spec three is;
       suits = record {
@@ -262,9 +253,9 @@ can_run version phase part ended next plan slots p this ordered ready right go f
     record {
       number = this.number;
       ordered = ordered;
-      of = all_of slots p (by_relid p.opened) all;
+      of = all_of boxes p (by_relid p.opened) all;
       can = record {
-        each = all_open phase slots p (by_relid p.opened) plan ready all ordered;
+        each = all_open phase boxes p (by_relid p.opened) plan ready all ordered;
         few = omega (
           arith,
           each_long (IsOrdered p) (by_relid p.opened) plan ordered,
@@ -275,7 +266,7 @@ can_run version phase part ended next plan slots p this ordered ready right go f
           sixteen,
         );
         asked = λ k less.
-            let spec = spec_there specs k (omega (arith, less, length-map slots spec_of)) in
+            let spec = spec_there specs k (omega (arith, less, length-map boxes spec_of)) in
             let here = channels_here f k next specs spec.0 spec.1 in
             let mine : quotas_of k plan ≡ map (asked_of p) (if f k then channels_from k spec.0 here.0 else []) =
             quotas_planned p k (by_relid p.opened) plan ordered ∙ ap (map (asked_of p)) (ap (λ l. of_device k (by_relid l)) of.opened ∙ here.1) in
@@ -341,7 +332,7 @@ shares_all p k next spec (c ∷ seats) (suc j) each is less =
     let e : 1 + j ≡ suc j = omega arith in
     shares_from p (channels_of spec) k spec seats 1 next (subs_of spec) j refl each.1 tail (omega (arith, less, all_channels spec)) ∙ ap (λ s. length (share (channels_of spec) s 0 (asks_of k p.part))) e
 
-pub have_outcomes : (version phase : ℕ) (part : List Line) (ended : List (Option Ending)) (next : ℕ) (old new : List DeviceSlot) (settled settled' : List ChannelRun) (outcomes : List (List (List LineResult))) (p : Phase) → IsThis version phase part ended (specs_of old) next p
+pub have_outcomes : (version phase : ℕ) (part : List Line) (ended : List (Option Ending)) (next : ℕ) (old new : List DeviceBox) (settled settled' : List ChannelRun) (outcomes : List (List (List LineResult))) (p : Phase) → IsThis version phase part ended (specs_of old) next p
     → ChannelsRan p old new settled settled' outcomes → HasOutcomes part ended outcomes
 have_outcomes version phase part ended next old new settled settled' outcomes p this ran k less none n asks =
     let of = this.of in
@@ -369,7 +360,7 @@ have_outcomes version phase part ended next old new settled settled' outcomes p 
     many : (spec : DeviceSpec) (n : ℕ) → length (channels_from k spec n) ≡ channels_of spec
     many spec n = omega (arith, sub_count k spec 1 n (subs_of spec), all_channels spec)
 
-pub phase_ran : (p : Phase) (old new : List DeviceSlot) (settled settled' : List ChannelRun) (outcomes : List (List (List LineResult))) (results results' : List LineResult) (ran : ChannelsRan p old new settled settled' outcomes) → Tells (outcomes_in p ran.channels) results results'
+pub phase_ran : (p : Phase) (old new : List DeviceBox) (settled settled' : List ChannelRun) (outcomes : List (List (List LineResult))) (results results' : List LineResult) (ran : ChannelsRan p old new settled settled' outcomes) → Tells (outcomes_in p ran.channels) results results'
     → PhaseRan p old new settled settled' results results'
 phase_ran p old new settled settled' outcomes results results' ran tells = record {
   runs = map (λ c. c.run) ran.channels;

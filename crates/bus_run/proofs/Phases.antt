@@ -20,17 +20,18 @@ use Rattle.bus_model.proofs.Lists.{each_append}
 use Rattle.contact.specs.declared.version.Version.{Version}
 use Rattle.script_phases.specs.Agreed.{agreed_in}
 use Rattle.script_phases.specs.Openings.{Phase, subs_of, is_opened, opened_from, others, phases_from, phases}
-use Rattle.bus_model.specs.Logs.{EachHistory, IsHistory, log_of}
-use Rattle.bus_model.specs.Logs.{Recorded}
+use Rattle.device_kinds.specs.Logs.{EachHistory, IsHistory, log_of}
+use Rattle.device_kinds.specs.Logs.{Recorded}
 use Rattle.bus_model.specs.Run.{PhaseRuns, RunsOf, over, then_on, IsBusRun}
 use Rattle.bus_model.specs.declared.channel_run.ChannelRun.{ChannelRun}
-use Rattle.bus_model.specs.declared.history.DeviceHistory.{DeviceHistory}
+use Rattle.device_kinds.specs.declared.history.DeviceHistory.{DeviceHistory}
 use Rattle.bus_plan.specs.Endings.{AreEnded, outcome_left}
 use Rattle.bus_plan.specs.declared.ending.Ending.{Ending}
-use Rattle.bus_run.specs.declared.device_slot.DeviceSlot.{DeviceSlot}
 use Rattle.bus_run.specs.declared.runner.Runner.{Runner}
 use Rattle.scsi_disk.specs.DiskModel.{DiskState}
-use Rattle.bus_run.specs.DeviceSlot.{spec_of, setup_of, setup_for, slot_log, IsFresh, IsReady}
+use Rattle.bus_run.specs.Devices.{IsReady}
+use Rattle.device_any.specs.Boxes.{IsFresh, IsKept, box_log, setup_for, setup_of, spec_of}
+use Rattle.device_any.specs.declared.device_box.DeviceBox.{DeviceBox}
 use Rattle.bus_run.specs.Opened.{AllRanAsSet, HaveWorked}
 use Rattle.bus_run.specs.Settings.{SettingsOf}
 use Rattle.bus_run.specs.Whole.{IsThis, PhaseRan, AreFresh, setups_from, specs_of, parts_left, earlier_lines, NextWithin, behind, next_relid, RunsSoFar}
@@ -42,15 +43,15 @@ setups_push : (lines : List Line) (device at : ℕ) (kinds : List DeviceSpec) (k
 setups_push lines device at [] k is = let here : device ≡ at = omega (arith, is) in ap (λ n. setup_for k (bads_of n lines) ∷ []) here
 setups_push lines device at (j ∷ kinds) k is = ap (λ l. setup_for j (bads_of device lines) ∷ l) (setups_push lines (device + 1) at kinds k (omega (arith, is)))
 
-pub fresh_more : (lines : List Line) (kinds : List DeviceSpec) (slots new : List DeviceSlot) (spec : DeviceSpec) (bad : List ℕ) (slot : DeviceSlot) → AreFresh lines kinds slots → bad ≡ bads_of (length slots) lines → IsFresh spec bad slot → new ≡ slots ++ slot ∷ []
+pub fresh_more : (lines : List Line) (kinds : List DeviceSpec) (boxes new : List DeviceBox) (spec : DeviceSpec) (bad : List ℕ) (box : DeviceBox) → AreFresh lines kinds boxes → bad ≡ bads_of (length boxes) lines → IsFresh spec bad box → new ≡ boxes ++ box ∷ []
     → AreFresh lines (kinds ++ spec ∷ []) new
-fresh_more lines kinds slots new spec bad slot old places fresh is =
-    let long : length slots ≡ 0 + length kinds = omega (arith, length-map slots spec_of, ap length old.kinds_are) in
+fresh_more lines kinds boxes new spec bad box old places fresh is =
+    let long : length boxes ≡ 0 + length kinds = omega (arith, length-map boxes spec_of, ap length old.kinds_are) in
     subst (AreFresh lines (kinds ++ spec ∷ [])) (sym is) (record {
-      kinds_are = map-append spec_of slots (slot ∷ []) ∙ ap (λ l. l ++ spec_of slot ∷ []) old.kinds_are ∙ ap (λ k. kinds ++ k ∷ []) fresh.spec;
-      setups_are = map-append setup_of slots (slot ∷ []) ∙ ap (λ l. l ++ setup_of slot ∷ []) old.setups_are ∙ ap (λ s. setups_from lines 0 kinds ++ s ∷ []) (fresh.setup ∙ ap (setup_for spec) places) ∙ sym (setups_push lines 0 (length slots) kinds spec long);
-      logs = map-append slot_log slots (slot ∷ []) ∙ ap (λ l. l ++ slot_log slot ∷ []) old.logs ∙ ap (λ k. map (λ k. []) kinds ++ k ∷ []) fresh.log ∙ sym (map-append (λ k. []) kinds (spec ∷ []));
-      ready = All-push (IsReady 0) slots slot old.ready (record { kept = fresh.kept; few = omega (arith, ap length fresh.log) });
+      kinds_are = map-append spec_of boxes (box ∷ []) ∙ ap (λ l. l ++ spec_of box ∷ []) old.kinds_are ∙ ap (λ k. kinds ++ k ∷ []) fresh.spec_is;
+      setups_are = map-append setup_of boxes (box ∷ []) ∙ ap (λ l. l ++ setup_of box ∷ []) old.setups_are ∙ ap (λ s. setups_from lines 0 kinds ++ s ∷ []) (fresh.setup ∙ ap (setup_for spec) places) ∙ sym (setups_push lines 0 (length boxes) kinds spec long);
+      logs = map-append box_log boxes (box ∷ []) ∙ ap (λ l. l ++ box_log box ∷ []) old.logs ∙ ap (λ k. map (λ k. []) kinds ++ k ∷ []) fresh.log ∙ sym (map-append (λ k. []) kinds (spec ∷ []));
+      ready = All-push (IsReady 0) boxes box old.ready (record { kept = fresh.kept; few = omega (arith, ap length fresh.log) });
     })
 
 pub offered_taken : (lines : List Line) (i : ℕ) (line : Line) → i < length lines → line ≡ get_or lines i line → offered (take (i + 1) lines) ≡ offered (take i lines) ++ offered_by line.what
@@ -61,56 +62,60 @@ offered_taken lines i line less is =
 
 -- histories at the end
 
--- a device that was not reached is the old one
-pub rest_there : (old slots : List DeviceSlot) (i : ℕ) (slot : DeviceSlot) → drop i slots ≡ drop i old → i < length slots → i < length old → slot ≡ get_or slots i slot → slot ≡ get_or old i slot
-rest_there old slots i slot rest less within is =
-    let heads : get_or slots i slot ∷ drop (i + 1) slots ≡ get_or old i slot ∷ drop (i + 1) old = sym (drop_more slots i slot less) ∙ rest ∙ drop_more old i slot within in
-    is ∙ ap (λ (l : List DeviceSlot). get_or l 0 slot) heads
-
 -- each history is its device's
-abbrev pub EachTells : List DeviceSlot → List DeviceHistory → Type 0
+abbrev pub EachTells : List DeviceBox → List DeviceHistory → Type 0
 EachTells [] [] = Unit {0}
 EachTells [] (h ∷ histories) = ⊥
-EachTells (d ∷ slots) [] = ⊥
-EachTells (d ∷ slots) (h ∷ histories) = ((bad : List ℕ) → setup_of d ≡ setup_for (spec_of d) bad → IsHistory (spec_of d) bad h) × EachTells slots histories
+EachTells (d ∷ boxes) [] = ⊥
+EachTells (d ∷ boxes) (h ∷ histories) = ((bad : List ℕ) → setup_of d ≡ setup_for (spec_of d) bad → IsHistory (spec_of d) bad h) × EachTells boxes histories
 
-tells_push : (slots : List DeviceSlot) (histories : List DeviceHistory) (d : DeviceSlot) (h : DeviceHistory) → EachTells slots histories → ((bad : List ℕ) → setup_of d ≡ setup_for (spec_of d) bad → IsHistory (spec_of d) bad h) → EachTells (slots ++ d ∷ []) (histories ++ h ∷ [])
+tells_push : (boxes : List DeviceBox) (histories : List DeviceHistory) (d : DeviceBox) (h : DeviceHistory) → EachTells boxes histories → ((bad : List ℕ) → setup_of d ≡ setup_for (spec_of d) bad → IsHistory (spec_of d) bad h) → EachTells (boxes ++ d ∷ []) (histories ++ h ∷ [])
 tells_push [] [] d h each one = (one, tt)
 tells_push [] (g ∷ histories) d h each one = absurd each
-tells_push (e ∷ slots) [] d h each one = absurd each
-tells_push (e ∷ slots) (g ∷ histories) d h each one = (each.0, tells_push slots histories d h each.1 one)
+tells_push (e ∷ boxes) [] d h each one = absurd each
+tells_push (e ∷ boxes) (g ∷ histories) d h each one = (each.0, tells_push boxes histories d h each.1 one)
 
-each_history : (lines : List Line) (device : ℕ) (slots : List DeviceSlot) (histories : List DeviceHistory) → EachTells slots histories → map setup_of slots ≡ setups_from lines device (map spec_of slots) → EachHistory lines device (map spec_of slots) histories
+each_history : (lines : List Line) (device : ℕ) (boxes : List DeviceBox) (histories : List DeviceHistory) → EachTells boxes histories → map setup_of boxes ≡ setups_from lines device (map spec_of boxes) → EachHistory lines device (map spec_of boxes) histories
 each_history lines device [] [] each are = tt
 each_history lines device [] (h ∷ histories) each are = absurd each
-each_history lines device (d ∷ slots) [] each are = absurd each
-each_history lines device (d ∷ slots) (h ∷ histories) each are =
-    (each.0 (bads_of device lines) (ap (λ (l : List (Option DiskState)). get_or l 0 None) are), each_history lines (device + 1) slots histories each.1 (ap (λ (l : List (Option DiskState)). drop 1 l) are))
+each_history lines device (d ∷ boxes) [] each are = absurd each
+each_history lines device (d ∷ boxes) (h ∷ histories) each are =
+    (each.0 (bads_of device lines) (ap (λ (l : List (Option DiskState)). get_or l 0 None) are), each_history lines (device + 1) boxes histories each.1 (ap (λ (l : List (Option DiskState)). drop 1 l) are))
 
-pub record HistoriesSoFar (i : ℕ) (old slots : List DeviceSlot) (histories : List DeviceHistory) : Type 0 where
-  pub logs : map log_of histories ≡ map slot_log (take i old)
+-- the histories of the first devices
+pub record HistoriesSoFar (i : ℕ) (old : List DeviceBox) (histories : List DeviceHistory) : Type 0 where
+  pub logs : map log_of histories ≡ map box_log (take i old)
   pub legal : EachTells (take i old) histories
-  pub rest : drop i slots ≡ drop i old
-  pub count : length slots ≡ length old
 
-pub history_more : (i : ℕ) (old slots : List DeviceSlot) (histories : List DeviceHistory) (slot gone : DeviceSlot) (h : DeviceHistory) → HistoriesSoFar i old slots histories → i < length slots → slot ≡ get_or slots i slot → log_of h ≡ slot_log slot
-    → ((bad : List ℕ) → setup_of slot ≡ setup_for (spec_of slot) bad → IsHistory (spec_of slot) bad h) → HistoriesSoFar (i + 1) old (slice_set slots i gone) (histories ++ h ∷ [])
-history_more i old slots histories slot gone h so_far less is log legal =
-    let within : i < length old = omega (arith, less, so_far.count) in
-    let here : slot ≡ get_or old i slot = rest_there old slots i slot so_far.rest less within is in
-    let taken : take (i + 1) old ≡ take i old ++ slot ∷ [] = take_more old i slot within ∙ ap (λ (d : DeviceSlot). take i old ++ d ∷ []) (sym here) in
-    record {
-      logs = map-append log_of histories (h ∷ []) ∙ ap (λ l. l ++ log_of h ∷ []) so_far.logs ∙ ap (λ x. map slot_log (take i old) ++ x ∷ []) log ∙ sym (ap (map slot_log) taken ∙ map-append slot_log (take i old) (slot ∷ []));
-      legal = subst (λ l. EachTells l (histories ++ h ∷ [])) (sym taken) (tells_push (take i old) histories slot h so_far.legal legal);
-      rest = drop-set-lt (i + 1) slots i gone (omega arith) ∙ ap (drop 1) (sym (drop_more slots i slot less) ∙ so_far.rest ∙ drop_more old i slot within);
-      count = length-set slots i gone ∙ so_far.count;
-    }
+pub history_more : (old left rest : List DeviceBox) (histories histories' : List DeviceHistory) (box : DeviceBox) (h : DeviceHistory) → HistoriesSoFar (length histories) old histories → left ≡ drop (length histories) old → left ≡ box ∷ rest → log_of h ≡ box_log box
+    → ((bad : List ℕ) → setup_of box ≡ setup_for (spec_of box) bad → IsHistory (spec_of box) bad h) → histories' ≡ histories ++ h ∷ [] → HistoriesSoFar (length histories') old histories' × (rest ≡ drop (length histories') old)
+history_more old left rest histories histories' box h so_far left_is next log legal grown =
+    let i = length histories in
+    let less : i < length old = omega (arith, length-drop i old, ap length left_is, ap length next) in
+    let both : box ∷ rest ≡ get_or old i box ∷ drop (i + 1) old = sym next ∙ left_is ∙ drop_more old i box less in
+    let here : box ≡ get_or old i box = ap (λ (l : List DeviceBox). get_or l 0 box) both in
+    let taken : take (i + 1) old ≡ take i old ++ box ∷ [] = take_more old i box less ∙ ap (λ (d : DeviceBox). take i old ++ d ∷ []) (sym here) in
+    let long : length histories' ≡ i + 1 = omega (arith, ap length grown, length-append histories (h ∷ [])) in (
+      subst (λ n. HistoriesSoFar n old histories') (sym long)
+      (subst (HistoriesSoFar (i + 1) old) (sym grown) (record {
+        logs = map-append log_of histories (h ∷ []) ∙ ap (λ l. l ++ log_of h ∷ []) so_far.logs ∙ ap (λ x. map box_log (take i old) ++ x ∷ []) log ∙ sym (ap (map box_log) taken ∙ map-append box_log (take i old) (box ∷ []));
+        legal = subst (λ l. EachTells l (histories ++ h ∷ [])) (sym taken) (tells_push (take i old) histories box h so_far.legal legal);
+      })),
+      ap (λ (l : List DeviceBox). drop 1 l) both ∙ ap (λ n. drop n old) (sym long),
+    )
 
-pub histories_end : (i : ℕ) (old slots : List DeviceSlot) (histories : List DeviceHistory) → HistoriesSoFar i old slots histories → length old ≤ i
-    → (map log_of histories ≡ map slot_log old) × ((lines : List Line) → map setup_of old ≡ setups_from lines 0 (map spec_of old) → EachHistory lines 0 (map spec_of old) histories)
-histories_end i old slots histories so_far done =
+-- the device that is left first is one of them
+pub kept_next : (old left rest : List DeviceBox) (i : ℕ) (box : DeviceBox) → All IsKept old → left ≡ drop i old → left ≡ box ∷ rest → IsKept box
+kept_next old left rest i box kept left_is next =
+    let less : i < length old = omega (arith, length-drop i old, ap length left_is, ap length next) in
+    let both : box ∷ rest ≡ get_or old i box ∷ drop (i + 1) old = sym next ∙ left_is ∙ drop_more old i box less in
+    subst IsKept (sym (ap (λ (l : List DeviceBox). get_or l 0 box) both)) (kept i box less)
+
+pub histories_end : (i : ℕ) (old : List DeviceBox) (histories : List DeviceHistory) → HistoriesSoFar i old histories → length old ≤ i
+    → (map log_of histories ≡ map box_log old) × ((lines : List Line) → map setup_of old ≡ setups_from lines 0 (map spec_of old) → EachHistory lines 0 (map spec_of old) histories)
+histories_end i old histories so_far done =
     let whole : take i old ≡ old = take_all i old done in (
-      so_far.logs ∙ ap (map slot_log) whole,
+      so_far.logs ∙ ap (map box_log) whole,
       λ lines are. each_history lines 0 old histories (subst (λ l. EachTells l histories) whole so_far.legal) are,
     )
 
@@ -240,7 +245,7 @@ abbrev pub the_phase : List Line → ℕ → Phase
 the_phase lines k = get_or (phases lines) k no_phase
 
 -- it is the one that runs next
-pub next_phase : (lines : List Line) (r : Runner) (part : List Line) (rest : List (List Line)) → RunsSoFar lines r → IsScript lines → part ∷ rest ≡ drop r.phase (parts lines) → IsThis r.version.0 r.phase part r.ended.items (specs_of r.slots.items) r.relid (the_phase lines r.phase)
+pub next_phase : (lines : List Line) (r : Runner) (part : List Line) (rest : List (List Line)) → RunsSoFar lines r → IsScript lines → part ∷ rest ≡ drop r.phase (parts lines) → IsThis r.version.0 r.phase part r.ended.items (specs_of r.boxes.items) r.relid (the_phase lines r.phase)
 next_phase lines r part rest so_far script left =
     let less : r.phase < length (parts lines) = (this_phase (parts lines) r.phase part rest left).0 in
     let at = phase_at (agreed_in lines) (offered lines) 0 (length (offered lines) + 1) [] (parts lines) r.phase no_phase less in
@@ -252,7 +257,7 @@ next_phase lines r part rest so_far script left =
       of = record {
         part_is = at.part_is ∙ sym head;
         ended_are = subst (λ l. AreEnded l r.ended.items) (sym at.earlier_is) so_far.ended;
-        devices = length-map r.slots.items spec_of ∙ sym so_far.ended_count;
+        devices = length-map r.boxes.items spec_of ∙ sym so_far.ended_count;
         opened = at.opened
             ∙ (ap (λ n. opened_from (is_opened (the_phase lines r.phase).earlier (the_phase lines r.phase).part) 0 n (offered lines)) (sym so_far.relid)
             ∙ ap (opened_from (is_opened (the_phase lines r.phase).earlier (the_phase lines r.phase).part) 0 r.relid) (sym kinds));
@@ -281,14 +286,14 @@ all_few kinds [] right = tt
 all_few kinds (l ∷ lines) right = each_append (λ s. subs_of s ≤ 3) (offered_by l.what) (offered lines) (few_offered kinds l.what right.0) (all_few kinds lines right.1)
 
 -- no phase ran
-pub start : (lines : List Line) (r : Runner) → r.version.0 ≡ agreed_in lines → AreFresh lines (offered lines) r.slots.items → SettingsOf lines (length r.slots.items) r.settings.items → r.ended.items ≡ replicate (length r.slots.items) None → r.relid ≡ length r.slots.items + 1 → length (offered lines) ≤ 16 → r.phase ≡ 0 → r.next ≡ Some 0 → r.settled.items ≡ [] → r.results.items ≡ [] → r.work.items ≡ []
+pub start : (lines : List Line) (r : Runner) → r.version.0 ≡ agreed_in lines → AreFresh lines (offered lines) r.boxes.items → SettingsOf lines (length r.boxes.items) r.settings.items → r.ended.items ≡ replicate (length r.boxes.items) None → r.relid ≡ length r.boxes.items + 1 → length (offered lines) ≤ 16 → r.phase ≡ 0 → r.next ≡ Some 0 → r.settled.items ≡ [] → r.results.items ≡ [] → r.work.items ≡ []
     → RunsSoFar lines r
 start lines r agreed fresh settings none relid sixteen phase next settled results work =
     let before : List (List Recorded) = map (λ k. []) (offered lines) in
-    let many : length r.slots.items ≡ length (offered lines) = sym (length-map r.slots.items spec_of) ∙ ap length fresh.kinds_are in
+    let many : length r.boxes.items ≡ length (offered lines) = sym (length-map r.boxes.items spec_of) ∙ ap length fresh.kinds_are in
     let none_opened : length (offered lines) + 1 ≡ next_relid lines 0 = omega arith in
     record {
-      runs = subst (λ k. RunsOf (take k (phases lines)) before r.settled.items (map slot_log r.slots.items) r.results.items) (sym phase)
+      runs = subst (λ k. RunsOf (take k (phases lines)) before r.settled.items (map box_log r.boxes.items) r.results.items) (sym phase)
           (subst (λ l. RunsOf [] before r.settled.items l r.results.items) (sym fresh.logs)
           (subst (λ l. RunsOf [] before l before r.results.items) (sym settled) (subst (λ l. RunsOf [] before [] before l) (sym results) over)));
       worked = subst (λ k. AllRanAsSet lines (take k (phases lines)) r.work.items r.settled.items) (sym phase)
@@ -304,9 +309,9 @@ start lines r agreed fresh settings none relid sixteen phase next settled result
       ended = subst (λ n. AreEnded (earlier_lines lines n) r.ended.items) (sym phase)
           (λ k less.
           let blank : Option Ending = None in
-          let within : k < length r.slots.items = omega (arith, less, ap length none, length-replicate (length r.slots.items) blank) in
-          ap outcome_left (ap (λ l. slice_index_or l k None) none ∙ get_or-replicate (length r.slots.items) k blank None within));
-      ended_count = ap length none ∙ length-replicate (length r.slots.items) None;
+          let within : k < length r.boxes.items = omega (arith, less, ap length none, length-replicate (length r.boxes.items) blank) in
+          ap outcome_left (ap (λ l. slice_index_or l k None) none ∙ get_or-replicate (length r.boxes.items) k blank None within));
+      ended_count = ap length none ∙ length-replicate (length r.boxes.items) None;
       relid = relid ∙ (ap (λ n. n + 1) many ∙ (none_opened ∙ ap (next_relid lines) (sym phase)));
       relid_few = omega (arith, relid, many, sixteen);
     }
@@ -314,11 +319,11 @@ start lines r agreed fresh settings none relid sixteen phase next settled result
 -- one more phase ran
 pub go_on : (lines part : List Line) (old new : Runner) (at : ℕ) (next : Option ℕ) → RunsSoFar lines old → IsScript lines → old.next ≡ Some at
     → MatchOption next (parts (drop at lines) ≡ part ∷ []) (λ n. parts (drop at lines) ≡ part ∷ parts (drop n (drop at lines))) → MatchOption next ⊤ (λ n. n ≤ length (drop at lines))
-    → ((p : Phase) → IsThis old.version.0 old.phase part old.ended.items (specs_of old.slots.items) old.relid p → PhaseRan p old.slots.items new.slots.items old.settled.items new.settled.items old.results.items new.results.items)
-    → ((p : Phase) → IsThis old.version.0 old.phase part old.ended.items (specs_of old.slots.items) old.relid p → new.relid ≡ old.relid + length (others p.opened)) → new.relid ≤ old.relid + 48
+    → ((p : Phase) → IsThis old.version.0 old.phase part old.ended.items (specs_of old.boxes.items) old.relid p → PhaseRan p old.boxes.items new.boxes.items old.settled.items new.settled.items old.results.items new.results.items)
+    → ((p : Phase) → IsThis old.version.0 old.phase part old.ended.items (specs_of old.boxes.items) old.relid p → new.relid ≡ old.relid + length (others p.opened)) → new.relid ≤ old.relid + 48
     → ((earlier : List Line) → AreEnded earlier old.ended.items → AreEnded (earlier ++ part) new.ended.items)
-    → length new.ended.items ≡ length old.ended.items → All (IsReady (4096 * (old.phase + 1))) new.slots.items → new.phase ≡ old.phase + 1 → new.next ≡ behind at next → new.settings.items ≡ old.settings.items → new.version ≡ old.version
-    → ((p : Phase) → IsThis old.version.0 old.phase part old.ended.items (specs_of old.slots.items) old.relid p → HaveWorked old.settings.items p old.settled.items new.settled.items old.work.items new.work.items) → RunsSoFar lines new
+    → length new.ended.items ≡ length old.ended.items → All (IsReady (4096 * (old.phase + 1))) new.boxes.items → new.phase ≡ old.phase + 1 → new.next ≡ behind at next → new.settings.items ≡ old.settings.items → new.version ≡ old.version
+    → ((p : Phase) → IsThis old.version.0 old.phase part old.ended.items (specs_of old.boxes.items) old.relid p → HaveWorked old.settings.items p old.settled.items new.settled.items old.work.items new.work.items) → RunsSoFar lines new
 go_on lines part old new at next so_far script here split within ran relids few ended count ready phase moved settings agreed worked =
     let cut : parts (drop at lines) ≡ part ∷ parts_left lines (behind at next) = part_next lines part at next split in
     let left : part ∷ parts_left lines (behind at next) ≡ drop old.phase (parts lines) = sym cut ∙ ap (parts_left lines) (sym here) ∙ so_far.left in
@@ -327,11 +332,11 @@ go_on lines part old new at next so_far script here split within ran relids few 
     let one = ran p is_this in
     let this = this_phase (parts lines) old.phase part (parts_left lines (behind at next)) left in
     let started : at ≤ length lines = subst (NextWithin lines) here so_far.within in
-    let slots : length new.slots.items ≡ length old.slots.items = sym (length-map new.slots.items spec_of) ∙ ap length one.kinds ∙ length-map old.slots.items spec_of in
+    let boxes : length new.boxes.items ≡ length old.boxes.items = sym (length-map new.boxes.items spec_of) ∙ ap length one.kinds ∙ length-map old.boxes.items spec_of in
     let less : old.phase < length (phases lines) = omega (arith, this.0, phases_long (agreed_in lines) (offered lines) 0 (length (offered lines) + 1) [] (parts lines)) in
     let before : List (List Recorded) = map (λ k. []) (offered lines) in
-    let whole : RunsOf (take old.phase (phases lines) ++ p ∷ []) before (old.settled.items ++ one.runs) (map slot_log new.slots.items) (old.results.items ++ one.told) =
-    runs_push (take old.phase (phases lines)) before (map slot_log old.slots.items) (map slot_log new.slots.items) old.settled.items one.runs old.results.items one.told p so_far.runs one.phase_runs in
+    let whole : RunsOf (take old.phase (phases lines) ++ p ∷ []) before (old.settled.items ++ one.runs) (map box_log new.boxes.items) (old.results.items ++ one.told) =
+    runs_push (take old.phase (phases lines)) before (map box_log old.boxes.items) (map box_log new.boxes.items) old.settled.items one.runs old.results.items one.told p so_far.runs one.phase_runs in
     let taken : take new.phase (phases lines) ≡ take old.phase (phases lines) ++ p ∷ [] = ap (λ n. take n (phases lines)) phase ∙ take_more (phases lines) old.phase no_phase less in
     let head : part ≡ get_or (parts lines) old.phase [] = ap (λ (l : List (List Line)). get_or l 0 []) (left ∙ drop_more (parts lines) old.phase [] this.0) in
     let lines_behind : earlier_lines lines old.phase ++ part ≡ earlier_lines lines new.phase =
@@ -339,21 +344,21 @@ go_on lines part old new at next so_far script here split within ran relids few 
     ∙ (sym (flat_map-append (λ (part : List Line). part) (take old.phase (parts lines)) (get_or (parts lines) old.phase [] ∷ []))
     ∙ ap (flat_map (λ part. part)) (sym (ap (λ n. take n (parts lines)) phase ∙ take_more (parts lines) old.phase [] this.0))) in
     record {
-      runs = subst (λ ps. RunsOf ps before new.settled.items (map slot_log new.slots.items) new.results.items) (sym taken)
-          (subst (λ l. RunsOf (take old.phase (phases lines) ++ p ∷ []) before l (map slot_log new.slots.items) new.results.items) (sym one.settled_are)
-          (subst (λ l. RunsOf (take old.phase (phases lines) ++ p ∷ []) before (old.settled.items ++ one.runs) (map slot_log new.slots.items) l) (sym one.results_are) whole));
+      runs = subst (λ ps. RunsOf ps before new.settled.items (map box_log new.boxes.items) new.results.items) (sym taken)
+          (subst (λ l. RunsOf (take old.phase (phases lines) ++ p ∷ []) before l (map box_log new.boxes.items) new.results.items) (sym one.settled_are)
+          (subst (λ l. RunsOf (take old.phase (phases lines) ++ p ∷ []) before (old.settled.items ++ one.runs) (map box_log new.boxes.items) l) (sym one.results_are) whole));
       worked = subst (λ ps. AllRanAsSet lines ps new.work.items new.settled.items) (sym taken)
-          (ran_more lines (length old.slots.items) old.settings.items (take old.phase (phases lines)) p old.work.items new.work.items old.settled.items new.settled.items so_far.settings so_far.worked (worked p is_this));
+          (ran_more lines (length old.boxes.items) old.settings.items (take old.phase (phases lines)) p old.work.items new.work.items old.settled.items new.settled.items so_far.settings so_far.worked (worked p is_this));
       left = ap (parts_left lines) moved ∙ this.2 ∙ ap (λ p. drop p (parts lines)) (sym phase);
       within = subst (NextWithin lines) (sym moved) (within_next lines at next started within);
       counted = omega (arith, phase, this.0);
       kinds = one.kinds ∙ so_far.kinds;
       setups = one.setups ∙ so_far.setups;
-      ready = subst (λ p. All (IsReady (4096 * p)) new.slots.items) (sym phase) ready;
+      ready = subst (λ p. All (IsReady (4096 * p)) new.boxes.items) (sym phase) ready;
       version = ap (λ (v : Version). v.0) agreed ∙ so_far.version;
-      settings = subst (λ n. SettingsOf lines n new.settings.items) (sym slots) (subst (SettingsOf lines (length old.slots.items)) (sym settings) so_far.settings);
+      settings = subst (λ n. SettingsOf lines n new.settings.items) (sym boxes) (subst (SettingsOf lines (length old.boxes.items)) (sym settings) so_far.settings);
       ended = subst (λ l. AreEnded l new.ended.items) lines_behind (ended (earlier_lines lines old.phase) so_far.ended);
-      ended_count = count ∙ so_far.ended_count ∙ sym slots;
+      ended_count = count ∙ so_far.ended_count ∙ sym boxes;
       relid = omega (
         arith,
         relids p is_this,
@@ -367,13 +372,13 @@ go_on lines part old new at next so_far script here split within ran relids few 
     }
 
 -- all phases ran
-pub finish : (lines : List Line) (r : Runner) (histories : List DeviceHistory) → RunsSoFar lines r → r.phase ≡ length (parts lines) → map log_of histories ≡ map slot_log r.slots.items → ((ls : List Line) → map setup_of r.slots.items ≡ setups_from ls 0 (map spec_of r.slots.items) → EachHistory ls 0 (map spec_of r.slots.items) histories)
+pub finish : (lines : List Line) (r : Runner) (histories : List DeviceHistory) → RunsSoFar lines r → r.phase ≡ length (parts lines) → map log_of histories ≡ map box_log r.boxes.items → ((ls : List Line) → map setup_of r.boxes.items ≡ setups_from ls 0 (map spec_of r.boxes.items) → EachHistory ls 0 (map spec_of r.boxes.items) histories)
     → IsBusRun lines r.settled.items histories r.results.items
 finish lines r histories so_far done logs legal =
     let all : take r.phase (phases lines) ≡ phases lines = take_all r.phase (phases lines) (omega (arith, done, phases_long (agreed_in lines) (offered lines) 0 (length (offered lines) + 1) [] (parts lines))) in
     let before : List (List Recorded) = map (λ k. []) (offered lines) in
     record {
-      phases_run = subst (λ l. RunsOf (phases lines) before r.settled.items l r.results.items) (sym logs) (subst (λ ps. RunsOf ps before r.settled.items (map slot_log r.slots.items) r.results.items) all so_far.runs);
+      phases_run = subst (λ l. RunsOf (phases lines) before r.settled.items l r.results.items) (sym logs) (subst (λ ps. RunsOf ps before r.settled.items (map box_log r.boxes.items) r.results.items) all so_far.runs);
       legal = subst (λ k. EachHistory lines 0 k histories) so_far.kinds (legal lines (so_far.setups ∙ ap (setups_from lines 0) (sym so_far.kinds)));
     }
 

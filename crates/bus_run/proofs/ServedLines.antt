@@ -12,9 +12,9 @@ use Rattle.bus_model.specs.Orders.{Order}
 use Rattle.bus_model.specs.Channel.{outcomes_of}
 use Rattle.bus_model.proofs.Arriving.{serves_each_lem}
 use Rattle.bus_model.proofs.FromLists.{lists_tell_lem}
-use Rattle.worker_pair.specs.Seats.{served_at as calls_at}
+use Rattle.device_any.specs.Seats.{served_at as calls_at}
 use Rattle.bus_threads.specs.declared.pair.PairDone.{PairDone}
-use Rattle.worker_pair.specs.declared.device_seat.DeviceSeat.{DeviceSeat}
+use Rattle.device_any.specs.declared.device_seat.DeviceSeat.{DeviceSeat}
 use Rattle.bus_threads.specs.Pairs.{RanPair}
 use Rattle.bus_plan.specs.Served.{left_in, served_line, served_lines}
 

@@ -1,6 +1,5 @@
-pub mod DeviceSlot
+pub mod Devices
 pub mod Settings
-pub mod Seats
 pub mod Opening
 pub mod Closing
 pub mod Opened

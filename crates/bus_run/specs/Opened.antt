@@ -8,9 +8,9 @@ use Rattle.bus_model.specs.declared.channel_run.ChannelRun.{ChannelRun}
 use Rattle.bus_plan.specs.Plans.{EachOf}
 use Rattle.bus_threads.specs.Pairs.{EachRuns, Pairing}
 use Rattle.bus_threads.specs.declared.pair.PairDone.{PairDone}
-use Rattle.worker_pair.specs.declared.device_seat.DeviceSeat.{DeviceSeat}
+use Rattle.device_any.specs.declared.device_seat.DeviceSeat.{DeviceSeat}
 use Rattle.bus_run.specs.Opening.{IsOpenedWith}
-use Rattle.bus_run.specs.Seats.{EachWith}
+use Rattle.device_any.specs.Boxes.{EachWith}
 use Rattle.bus_run.specs.Settings.{settings_of, unset}
 use Rattle.bus_run.specs.declared.settings.Settings.{Settings}
 

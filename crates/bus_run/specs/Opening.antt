@@ -1,20 +1,19 @@
 -- The channels of a phase are opened.
-use Rattle.std.specs.Prelude.{ℕ, ◌≡◌, ◌*◌, ◌<◌, ◌≤◌, ◌==◌, List, [], ◌++◌, length, map, filter, sum, slice_index_or, Some}
+use Rattle.std.specs.Prelude.{ℕ, ◌≡◌, ◌*◌, ◌<◌, ◌≤◌, ◌==◌, List, [], ◌∷◌, ◌++◌, length, map, filter, sum, slice_index_or, Some, None}
 use Rattle.std.specs.List.{AllByRecursion}
 use Rattle.contact.specs.declared.kind.DeviceKind.{DeviceKind}
 use Rattle.worker_pair.specs.Plans.{stop_of}
-use Rattle.worker_pair.specs.Seats.{kind_at}
-use Rattle.worker_pair.specs.declared.device_seat.DeviceSeat.{DeviceSeat}
+use Rattle.device_any.specs.Seats.{kind_at}
+use Rattle.device_any.specs.declared.device_seat.DeviceSeat.{DeviceSeat}
 use Rattle.bus_model.specs.Orders.{Order}
 use Rattle.bus_threads.specs.Pairs.{Pairing, AreOnChannel, Opens}
 use Rattle.bus_plan.specs.Plans.{order_by}
 use Rattle.bus_plan.specs.declared.opening.ChannelOrder.{ChannelOrder}
-use Rattle.bus_run.specs.DeviceSlot.{spec_of, subs_of, slot_at, Suits}
-use Rattle.bus_run.specs.Seats.{EachWith, IsAway, kind_in, seats_in}
+use Rattle.bus_run.specs.Devices.{Suits, box_at}
+use Rattle.script_lines.specs.Parts.{kind_of}
+use Rattle.device_any.specs.Boxes.{AreSeatsFor, EachWith, kind_in, seats_in, spec_of, subs_in}
+use Rattle.device_any.specs.declared.device_box.DeviceBox.{DeviceBox}
 use Rattle.bus_run.specs.Settings.{unset}
-use Rattle.bus_run.specs.declared.device_slot.DeviceSlot.{DeviceSlot}
-use Rattle.bus_run.specs.declared.seats.Seats.{Seats}
-use Rattle.bus_run.specs.declared.seats.Seats.TheVariants.{None as NoSeats}
 use Rattle.bus_run.specs.declared.settings.Settings.{Settings}
 
 -- what is ordered of the channels of a device, in order of relid
@@ -25,36 +24,42 @@ orders_of device plan = filter (λ x. x.opening.device == device) plan
 abbrev pub quotas_of : ℕ → List ChannelOrder → List ℕ
 quotas_of device plan = map (λ x. length x.asks.items) (orders_of device plan)
 
--- the seats of the device at this place
-abbrev pub seats_at : List Seats → ℕ → Seats
-seats_at seats k = slice_index_or seats k NoSeats
-
 -- what is ordered of a channel, of a device of this kind with so many channels beside the first one
 abbrev pub order_with : ChannelOrder → DeviceKind → ℕ → Order
 order_with x kind subs = record { kind = kind; sub = x.opening.sub; subs = subs; asks = x.asks.items; stop = stop_of x.stop }
 
 -- the same, where these are all devices
-abbrev pub order_at : List DeviceSlot → ChannelOrder → Order
-order_at slots x = order_by x (spec_of (slot_at slots x.opening.device))
+abbrev pub order_at : List DeviceBox → ChannelOrder → Order
+order_at boxes x = order_by x (spec_of (box_at boxes x.opening.device))
 
 -- a channel that can be opened: what is ordered of it suits its device
-pub record CanOpen (slots : List DeviceSlot) (x : ChannelOrder) : Type 0 where
-  pub within : x.opening.device < length slots
+pub record CanOpen (boxes : List DeviceBox) (x : ChannelOrder) : Type 0 where
+  pub within : x.opening.device < length boxes
   pub sub : x.opening.sub ≤ 3
-  pub subs : subs_of (slot_at slots x.opening.device) ≤ 3
-  pub suits : Suits 4096 (order_at slots x)
+  pub subs : subs_in (box_at boxes x.opening.device) ≤ 3
+  pub suits : Suits 4096 (order_at boxes x)
 
 -- all channels of a phase can, and no device is asked more than 4,096 requests
-pub record CanOpenAll (plan : List ChannelOrder) (slots : List DeviceSlot) : Type 0 where
-  pub each : AllByRecursion (CanOpen slots) plan
+pub record CanOpenAll (plan : List ChannelOrder) (boxes : List DeviceBox) : Type 0 where
+  pub each : AllByRecursion (CanOpen boxes) plan
   pub few : length plan ≤ 16
-  pub asked : (k : ℕ) → k < length slots → sum (quotas_of k plan) ≤ 4096
+  pub asked : (k : ℕ) → k < length boxes → sum (quotas_of k plan) ≤ 4096
 
--- the histories of the devices that a phase opens are open, and all seats of each stand here
-pub record AreAway (plan : List ChannelOrder) (old held : List DeviceSlot) (seats : List Seats) : Type 0 where
+-- a device whose channels of a phase have these quotas: all of its seats stand here. Where the phase opens no channel of it, it stays
+abbrev pub IsAway : DeviceBox → List ℕ → DeviceBox → Type 0
+IsAway old [] held = (held ≡ old) × (kind_in held ≡ None) × (seats_in held ≡ [])
+IsAway old (q ∷ quotas) held = (kind_in held ≡ Some (kind_of (spec_of old))) × (subs_in held ≡ subs_in old) × AreSeatsFor old (q ∷ quotas) (seats_in held)
+
+-- so are all devices
+pub record AreAway (plan : List ChannelOrder) (old held : List DeviceBox) : Type 0 where
   pub count : length held ≡ length old
-  pub places : length seats ≡ length old
-  pub each : (k : ℕ) → k < length old → IsAway (slot_at old k) (quotas_of k plan) (slot_at held k) (seats_at seats k) (seats_in (seats_at seats k))
+  pub each : (k : ℕ) → k < length old → IsAway (box_at old k) (quotas_of k plan) (box_at held k)
+
+-- a device while seats of it are taken and given back: nothing of one without channels is touched
+pub record IsStill (old new : DeviceBox) : Type 0 where
+  pub kind : kind_in new ≡ kind_in old
+  pub subs : subs_in new ≡ subs_in old
+  pub stays : kind_in old ≡ None → new ≡ old
 
 -- a channel was opened as the settings say and as was ordered, with this seat
 pub record IsOpenedWith (settings : Settings) (relid : ℕ) (order : Order) (seat : DeviceSeat) (pair : Pairing) : Type 0 where
@@ -70,20 +75,20 @@ pub record Given : Type 0 where
 abbrev pub seats_given : ℕ → List Given → List DeviceSeat
 seats_given device given = map (λ g. g.seat) (filter (λ g. g.order.opening.device == device) given)
 
-abbrev pub OpensAt : List Settings → List DeviceSlot → Given → Pairing → Type 0
-OpensAt settings slots g pair = IsOpenedWith (slice_index_or settings g.order.opening.device unset) g.order.opening.relid (order_at slots g.order) g.seat pair
+abbrev pub OpensAt : List Settings → List DeviceBox → Given → Pairing → Type 0
+OpensAt settings boxes g pair = IsOpenedWith (slice_index_or settings g.order.opening.device unset) g.order.opening.relid (order_at boxes g.order) g.seat pair
 
 -- Channels of a phase are opened, each with a seat of its device: the seats that each device had are those that its channels have, and those that still stand there
-pub record OpenedSoFar (settings : List Settings) (plan : List ChannelOrder) (old : List DeviceSlot) (before seats : List Seats) (pairs : List Pairing) : Type 0 where
+pub record OpenedSoFar (settings : List Settings) (plan : List ChannelOrder) (old before boxes : List DeviceBox) (pairs : List Pairing) : Type 0 where
   pub given : List Given
   pub planned : map (λ g. g.order) given ≡ plan
   pub opens : EachWith (OpensAt settings old) given pairs
-  pub places : length seats ≡ length before
-  pub kinds : (k : ℕ) → k < length before → kind_in (seats_at seats k) ≡ kind_in (seats_at before k)
-  pub dealt : (k : ℕ) → k < length before → seats_in (seats_at before k) ≡ seats_given k given ++ seats_in (seats_at seats k)
-  pub fits : AllByRecursion (λ g. kind_in (seats_at before g.order.opening.device) ≡ Some (kind_at g.seat)) given
+  pub places : length boxes ≡ length before
+  pub still : (k : ℕ) → k < length before → IsStill (box_at before k) (box_at boxes k)
+  pub dealt : (k : ℕ) → k < length before → seats_in (box_at before k) ≡ seats_given k given ++ seats_in (box_at boxes k)
+  pub fits : AllByRecursion (λ g. kind_in (box_at before g.order.opening.device) ≡ Some (kind_at g.seat)) given
 
 -- all channels are opened, and no seat is left
-pub record AllOpened (settings : List Settings) (plan : List ChannelOrder) (old : List DeviceSlot) (before seats : List Seats) (pairs : List Pairing) : Type 0 where
-  pub opened : OpenedSoFar settings plan old before seats pairs
-  pub none_left : (k : ℕ) → k < length before → seats_in (seats_at seats k) ≡ []
+pub record AllOpened (settings : List Settings) (plan : List ChannelOrder) (old before boxes : List DeviceBox) (pairs : List Pairing) : Type 0 where
+  pub opened : OpenedSoFar settings plan old before boxes pairs
+  pub none_left : (k : ℕ) → k < length before → seats_in (box_at boxes k) ≡ []

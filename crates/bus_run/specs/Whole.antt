@@ -16,14 +16,15 @@ use Rattle.bus_plan.specs.Endings.{AreEnded}
 use Rattle.bus_plan.specs.Plans.{IsPhaseOf}
 use Rattle.bus_plan.specs.declared.ending.Ending.{Ending}
 use Rattle.scsi_disk.specs.DiskModel.{DiskState}
-use Rattle.bus_run.specs.declared.device_slot.DeviceSlot.{DeviceSlot}
 use Rattle.bus_run.specs.declared.runner.Runner.{Runner}
 use Rattle.bus_run.specs.Opened.{AllRanAsSet}
 use Rattle.bus_run.specs.Settings.{SettingsOf}
-use Rattle.bus_run.specs.DeviceSlot.{spec_of, setup_of, setup_for, slot_log, IsReady}
+use Rattle.bus_run.specs.Devices.{IsReady}
+use Rattle.device_any.specs.Boxes.{box_log, setup_for, setup_of, spec_of}
+use Rattle.device_any.specs.declared.device_box.DeviceBox.{DeviceBox}
 
-abbrev pub specs_of : List DeviceSlot → List DeviceSpec
-specs_of slots = map spec_of slots
+abbrev pub specs_of : List DeviceBox → List DeviceSpec
+specs_of boxes = map spec_of boxes
 
 -- the phase of this version with this number and these lines, behind phases that ended these devices, where this relid is the next one
 pub record IsThis (agreed phase : ℕ) (part : List Line) (ended : List (Option Ending)) (specs : List DeviceSpec) (next : ℕ) (p : Phase) : Type 0 where
@@ -32,10 +33,10 @@ pub record IsThis (agreed phase : ℕ) (part : List Line) (ended : List (Option 
   pub of : IsPhaseOf part ended specs next p
 
 -- a phase went by
-pub record PhaseRan (p : Phase) (old new : List DeviceSlot) (settled settled' : List ChannelRun) (results results' : List LineResult) : Type 0 where
+pub record PhaseRan (p : Phase) (old new : List DeviceBox) (settled settled' : List ChannelRun) (results results' : List LineResult) : Type 0 where
   pub runs : List ChannelRun
   pub told : List LineResult
-  pub phase_runs : PhaseRuns p (map slot_log old) (map slot_log new) runs told
+  pub phase_runs : PhaseRuns p (map box_log old) (map box_log new) runs told
   pub kinds : map spec_of new ≡ map spec_of old
   pub setups : map setup_of new ≡ map setup_of old
   pub settled_are : settled' ≡ settled ++ runs
@@ -51,11 +52,11 @@ setups_from lines device [] = []
 setups_from lines device (k ∷ kinds) = setup_for k (bads_of device lines) ∷ setups_from lines (device + 1) kinds
 
 -- new devices of these kinds, with the bad places of these lines
-pub record AreFresh (lines : List Line) (kinds : List DeviceSpec) (slots : List DeviceSlot) : Type 0 where
-  pub kinds_are : map spec_of slots ≡ kinds
-  pub setups_are : map setup_of slots ≡ setups_from lines 0 kinds
-  pub logs : map slot_log slots ≡ map (λ k. []) kinds
-  pub ready : All (IsReady 0) slots
+pub record AreFresh (lines : List Line) (kinds : List DeviceSpec) (boxes : List DeviceBox) : Type 0 where
+  pub kinds_are : map spec_of boxes ≡ kinds
+  pub setups_are : map setup_of boxes ≡ setups_from lines 0 kinds
+  pub logs : map box_log boxes ≡ map (λ k. []) kinds
+  pub ready : All (IsReady 0) boxes
 
 -- the phases that are left, where the next one begins at this line
 abbrev pub parts_left : List Line → Option ℕ → List (List Line)
@@ -82,17 +83,17 @@ next_relid lines phase = length (offered lines) + 1 + length (flat_map (λ p. ot
 
 -- The first phases of a script ran, as many as the runner counts: what it has is a run of them, on channels that were opened as the script sets
 pub record RunsSoFar (lines : List Line) (r : Runner) : Type 0 where
-  pub runs : RunsOf (take r.phase (phases lines)) (map (λ k. []) (offered lines)) r.settled.items (map slot_log r.slots.items) r.results.items
+  pub runs : RunsOf (take r.phase (phases lines)) (map (λ k. []) (offered lines)) r.settled.items (map box_log r.boxes.items) r.results.items
   pub worked : AllRanAsSet lines (take r.phase (phases lines)) r.work.items r.settled.items
   pub left : parts_left lines r.next ≡ drop r.phase (parts lines)
   pub within : NextWithin lines r.next
   pub counted : r.phase ≤ length (parts lines)
-  pub kinds : map spec_of r.slots.items ≡ offered lines
-  pub setups : map setup_of r.slots.items ≡ setups_from lines 0 (offered lines)
-  pub ready : All (IsReady (4096 * r.phase)) r.slots.items
+  pub kinds : map spec_of r.boxes.items ≡ offered lines
+  pub setups : map setup_of r.boxes.items ≡ setups_from lines 0 (offered lines)
+  pub ready : All (IsReady (4096 * r.phase)) r.boxes.items
   pub version : r.version.0 ≡ agreed_in lines
-  pub settings : SettingsOf lines (length r.slots.items) r.settings.items
+  pub settings : SettingsOf lines (length r.boxes.items) r.settings.items
   pub ended : AreEnded (earlier_lines lines r.phase) r.ended.items
-  pub ended_count : length r.ended.items ≡ length r.slots.items
+  pub ended_count : length r.ended.items ≡ length r.boxes.items
   pub relid : r.relid ≡ next_relid lines r.phase
   pub relid_few : r.relid ≤ 17 + 48 * r.phase

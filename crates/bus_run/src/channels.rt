@@ -1,19 +1,19 @@
 //! The channels of a phase: all are opened, all run at once, and all are closed, in order of their relids.
 ghost use Rattle.std.specs.Prelude.{◌≡◌, ◌+◌, ◌*◌, ◌≤◌, length, All, IfOk, OnOk};
 ghost use Rattle.script_phases.specs.Openings.{Phase};
-ghost use Rattle.bus_run.specs.DeviceSlot.{IsReady};
+ghost use Rattle.bus_run.specs.Devices.{IsReady};
 ghost use Rattle.bus_run.specs.Channels.{CanRun, ChannelsRan};
 ghost use Rattle.bus_run.specs.Opened.{HaveWorked};
 ghost use Rattle.bus_run.specs.Settings.{HasLimits};
 
-use crate::closing::{close_all, close_slots};
-use crate::device_slot::DeviceSlot;
+use crate::closing::{close_all, unite_all};
 use crate::due::all_due;
-use crate::opening::{open_all, reopen_all};
+use crate::opening::{open_all, share_all};
 use crate::phase_work::PhaseWork;
 use crate::settings::Settings;
 use bus_model::ChannelRun;
 use bus_plan::{ChannelOrder, Outcomes};
+use device_any::DeviceBox;
 use io_edge::Gate;
 use std::alloc::{AllocError, Global};
 use std::snapshot::Snapshot;
@@ -29,29 +29,29 @@ pub fn run_channels<R: Threads + Wait + Sync, G: Gate>(
     phase: u32,
     plan: Vec<ChannelOrder>,
     settings: &[Settings],
-    slots: &mut Vec<DeviceSlot>,
+    boxes: &mut Vec<DeviceBox>,
     settled: &mut Vec<ChannelRun>,
     work: &mut Vec<PhaseWork>,
 ) -> Result<Outcomes, AllocError>
-    requires can { (p : Phase) × CanRun phase plan.items slots.old.items p }
-    requires ready { All (IsReady (4096 * phase)) slots.old.items }
-    requires settings { length settings.now ≡ length slots.old.items }
+    requires can { (p : Phase) × CanRun phase plan.items boxes.old.items p }
+    requires ready { All (IsReady (4096 * phase)) boxes.old.items }
+    requires settings { length settings.now ≡ length boxes.old.items }
     requires limits { All HasLimits settings.now }
     requires phase { phase ≤ 20000 }
-    requires few { length slots.old.items ≤ 16 }
-    ensures ran { IfOk result (λ outcomes. (p : Phase) → CanRun phase plan.items slots.old.items p → ChannelsRan p slots.old.items slots.new.items settled.old.items settled.new.items outcomes) }
-    ensures worked { OnOk result ((p : Phase) → CanRun phase plan.items slots.old.items p → HaveWorked settings.now p settled.old.items settled.new.items work.old.items work.new.items) }
-    ensures ready { OnOk result (All (IsReady (4096 * (phase + 1))) slots.new.items) }
+    requires few { length boxes.old.items ≤ 16 }
+    ensures ran { IfOk result (λ outcomes. (p : Phase) → CanRun phase plan.items boxes.old.items p → ChannelsRan p boxes.old.items boxes.new.items settled.old.items settled.new.items outcomes) }
+    ensures worked { OnOk result ((p : Phase) → CanRun phase plan.items boxes.old.items p → HaveWorked settings.now p settled.old.items settled.new.items work.old.items work.new.items) }
+    ensures ready { OnOk result (All (IsReady (4096 * (phase + 1))) boxes.new.items) }
 {
-    let mut seats = reopen_all(alloc, phase, &plan, slots)?;
+    share_all(alloc, phase, &plan, boxes)?;
     let dues = all_due(alloc, &plan)?;
-    let pairs = open_all(alloc, plan, settings, slots, &mut seats)?;
+    let pairs = open_all(alloc, plan, settings, boxes)?;
     let opened = Snapshot::of(&pairs);
     let mut done = Vec::with_capacity(alloc, pairs.len())?;
     bus_threads::run_phase(rt, pairs, &mut done, gate);
     let left = Snapshot::of(&done);
-    let outcomes = close_all(alloc, phase, &dues, done, &mut seats, settled)?;
-    close_slots(slots, seats);
+    let outcomes = close_all(alloc, phase, &dues, done, boxes, settled)?;
+    unite_all(boxes);
     work.push(PhaseWork { opened, left })?;
     Ok(outcomes)
 }

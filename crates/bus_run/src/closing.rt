@@ -2,28 +2,24 @@
 ghost use Rattle.std.specs.Prelude.{◌≡◌, ◌+◌, ◌<◌, ◌++◌, ◌∷◌, [], ℕ, List, length, map, Some, IfOk, OnOk};
 ghost use Rattle.std.specs.Vec.Iter.{into_iter_items};
 ghost use Rattle.bus_model.specs.Orders.{Order as OneOrder};
-ghost use Rattle.worker_pair.specs.Seats.{kind_at, served_at};
+ghost use Rattle.device_any.specs.Seats.{kind_at, served_at};
 ghost use Rattle.bus_threads.specs.Pairs.{RanPair};
 ghost use Rattle.bus_threads.specs.declared.pair.PairDone.{PairDone as OneDone};
-ghost use Rattle.worker_pair.specs.declared.device_seat.DeviceSeat.{DeviceSeat as OneSeat};
-ghost use Rattle.bus_run.specs.declared.device_slot.DeviceSlot.{DeviceSlot as OneSlot};
-ghost use Rattle.bus_run.specs.DeviceSlot.{GoesOn, slot_at};
+ghost use Rattle.device_any.specs.declared.device_seat.DeviceSeat.{DeviceSeat as OneSeat};
+ghost use Rattle.device_any.specs.Boxes.{kind_in};
+ghost use Rattle.device_any.specs.declared.device_box.DeviceBox.{DeviceBox as OneBox};
 ghost use Rattle.bus_run.specs.Opening.{Given};
 ghost use Rattle.bus_run.specs.Opened.{HaveLeft};
 ghost use Rattle.bus_run.specs.Closing.{AllBack, AllCome, AllClosed, AreWhole, ChannelClosed, ChannelEnded};
-ghost use Rattle.bus_run.specs.Seats.{kind_in, seats_in};
 
-use crate::device_slot::DeviceSlot;
 use crate::due::Due;
-use crate::seats::Seats;
 use bus_model::ChannelRun;
 use bus_plan::{ChannelOutcomes, Outcomes};
 use bus_threads::{PairDone, serving_seat};
+use device_any::{DeviceBox, DeviceSeat};
 use ring_seat::Settled;
 use std::alloc::{AllocError, Global};
-use std::mem;
 use std::vec::IntoIter;
-use worker_pair::DeviceSeat;
 
 /// What a channel carried, its seat, and the outcomes of its requests, of which there are so many: nothing is copied.
 fn end_channel(asked: usize, done: PairDone) -> (Settled, DeviceSeat, ChannelOutcomes)
@@ -51,13 +47,13 @@ fn end_channel(asked: usize, done: PairDone) -> (Settled, DeviceSeat, ChannelOut
 fn close_channel(
     phase: u32,
     due: &Due,
-    seats: &mut Seats,
+    own: &mut DeviceBox,
     dones: &mut IntoIter<PairDone>,
     settled: &mut Vec<ChannelRun>,
 ) -> Result<ChannelOutcomes, AllocError>
-    requires { (order : OneOrder) × (first : OneSeat) × (done : OneDone) × (rest : List OneDone) × (length order.asks ≡ due.now.count) × (kind_in seats.old ≡ Some (kind_at first)) × (into_iter_items dones.old ≡ done ∷ rest) × RanPair order first done }
+    requires { (order : OneOrder) × (first : OneSeat) × (done : OneDone) × (rest : List OneDone) × (length order.asks ≡ due.now.count) × (kind_in own.old ≡ Some (kind_at first)) × (into_iter_items dones.old ≡ done ∷ rest) × RanPair order first done }
     ensures closed { IfOk result (λ results. (order : OneOrder) (first : OneSeat) (done : OneDone) (rest : List OneDone) → length order.asks ≡ due.now.count → into_iter_items dones.old ≡ done ∷ rest → RanPair order first done
-        → ChannelClosed phase due.now.opening order first seats.old seats.new settled.old.items settled.new.items results) }
+        → ChannelClosed phase due.now.opening order first own.old own.new settled.old.items settled.new.items results) }
     ensures carried { OnOk result ((done : OneDone) (rest : List OneDone) → into_iter_items dones.old ≡ done ∷ rest → settled.new.items ≡ settled.old.items ++ record { phase = phase; relid = due.now.opening.relid; device = due.now.opening.device; settled = done.settled } ∷ []) }
     ensures rest { OnOk result ((done : OneDone) (rest : List OneDone) → into_iter_items dones.old ≡ done ∷ rest → into_iter_items dones.new ≡ rest) }
 {
@@ -66,7 +62,7 @@ fn close_channel(
     };
     let (mut lists, seat, outcomes) = end_channel(due.count, done);
     lists.trim()?;
-    seats.give_back(seat)?;
+    own.give_back(seat)?;
     settled.push(ChannelRun {
         phase,
         relid: due.opening.relid,
@@ -82,30 +78,29 @@ pub fn close_all(
     phase: u32,
     dues: &[Due],
     done: Vec<PairDone>,
-    seats: &mut Vec<Seats>,
+    boxes: &mut Vec<DeviceBox>,
     settled: &mut Vec<ChannelRun>,
 ) -> Result<Outcomes, AllocError>
-    requires { (old : List OneSlot) × (given : List Given) × AllCome dues.now old given seats.old.items done.items }
-    ensures closed { IfOk result (λ outcomes. (old : List OneSlot) (given : List Given) → AllCome dues.now old given seats.old.items done.items → AllClosed phase old given seats.old.items seats.new.items settled.old.items settled.new.items outcomes) }
+    requires { (old : List OneBox) × (given : List Given) × AllCome dues.now old given boxes.old.items done.items }
+    ensures closed { IfOk result (λ outcomes. (old : List OneBox) (given : List Given) → AllCome dues.now old given boxes.old.items done.items → AllClosed phase old given boxes.old.items boxes.new.items settled.old.items settled.new.items outcomes) }
     ensures left { OnOk result (HaveLeft settled.old.items settled.new.items done.items) }
 {
     let mut dones = done.into_iter();
-    let mut outcomes = Outcomes::make(alloc, seats.len())?;
+    let mut outcomes = Outcomes::make(alloc, boxes.len())?;
     for due in dues {
         let at = due.opening.device as usize;
-        let channel = close_channel(phase, due, &mut seats[at], &mut dones, settled)?;
+        let channel = close_channel(phase, due, &mut boxes[at], &mut dones, settled)?;
         outcomes.push(at, channel)?;
     }
     Ok(outcomes)
 }
 
 /// Closes the histories of all devices, once their channels are closed: each device is whole again.
-pub fn close_slots(slots: &mut Vec<DeviceSlot>, mut seats: Vec<Seats>)
-    requires { (old : List OneSlot) × (quotas : ℕ → List ℕ) × (given : ℕ → List OneSeat) × AllBack old quotas given slots.old.items seats.items }
-    ensures { (old : List OneSlot) (quotas : ℕ → List ℕ) (given : ℕ → List OneSeat) → AllBack old quotas given slots.old.items seats.items → AreWhole old slots.new.items seats.items }
+pub fn unite_all(boxes: &mut Vec<DeviceBox>)
+    requires { (old : List OneBox) × (quotas : ℕ → List ℕ) × (given : ℕ → List OneSeat) × AllBack old quotas given boxes.old.items }
+    ensures { (old : List OneBox) (quotas : ℕ → List ℕ) (given : ℕ → List OneSeat) → AllBack old quotas given boxes.old.items → AreWhole old boxes.old.items boxes.new.items }
 {
-    for device in 0..slots.len() {
-        let own = mem::replace(&mut seats[device], Seats::None);
-        own.close(&mut slots[device]);
+    for device in 0..boxes.len() {
+        boxes[device].unite();
     }
 }

@@ -4,15 +4,12 @@
 mod bads;
 mod channels;
 mod closing;
-mod device_slot;
 mod due;
 mod opening;
 mod phase;
 mod phase_work;
 mod runner;
-mod seats;
 mod settings;
 
-pub use device_slot::DeviceSlot;
 pub use phase_work::PhaseWork;
 pub use runner::{Runner, ScriptRun};

@@ -1,21 +1,17 @@
 //! The channels of a phase are opened.
 ghost use Rattle.std.specs.Prelude.{◌≡◌, ◌+◌, ◌*◌, ◌<◌, ◌≤◌, ◌^◌, ◌++◌, ◌∷◌, [], List, All, length, sum, IfOk, OnOk};
-ghost use Rattle.worker_pair.specs.Seats.{kind_at, served_at, left_at};
-ghost use Rattle.bus_run.specs.DeviceSlot.{slot_log, slot_at, IsKept, IsReady, Suits};
+ghost use Rattle.device_any.specs.Seats.{kind_at, served_at, left_at};
+ghost use Rattle.bus_run.specs.Devices.{IsReady, Suits};
+ghost use Rattle.device_any.specs.Boxes.{IsKept, box_log};
+ghost use Rattle.device_any.specs.declared.device_box.DeviceBox.{DeviceBox as OneBox};
 ghost use Rattle.bus_run.specs.Settings.{HasLimits};
-ghost use Rattle.bus_run.specs.Seats.{IsAway, seats_in};
-ghost use Rattle.bus_run.specs.Opening.{AreAway, CanOpenAll, IsOpenedWith, AllOpened, order_with, quotas_of};
-ghost use Rattle.bus_run.specs.declared.device_slot.DeviceSlot.{DeviceSlot as OneSlot};
+ghost use Rattle.bus_run.specs.Opening.{AreAway, IsAway, CanOpenAll, IsOpenedWith, AllOpened, order_with, quotas_of};
 
-use crate::device_slot::DeviceSlot;
-use crate::seats::Seats;
 use crate::settings::Settings;
 use bus_plan::ChannelOrder;
 use bus_threads::{Pair, open_pair};
-use contact::DeviceKind;
+use device_any::{DeviceBox, DeviceSeat};
 use std::alloc::{AllocError, Global};
-use std::mem;
-use worker_pair::DeviceSeat;
 
 /// Puts the number of a channel's requests behind others, if it is a channel of this device.
 fn add_quota(quotas: &mut Vec<u32>, device: u32, channel: &ChannelOrder) -> Result<(), AllocError>
@@ -40,52 +36,37 @@ fn quotas_of(alloc: Global, device: u32, plan: &[ChannelOrder]) -> Result<Vec<u3
     Ok(quotas)
 }
 
-/// Opens a device's history again, with a seat for each of these channels of it: the device is away from then on. Without a channel it stays.
-fn reopen(alloc: Global, slot: &mut DeviceSlot, quotas: &[u32]) -> Result<Seats, AllocError>
-    requires kept { IsKept slot.old }
+/// Opens a device's history again, with a seat for each of these channels of it, which have it from then on. Without a channel it stays.
+fn share(alloc: Global, own: &mut DeviceBox, quotas: &[u32]) -> Result<(), AllocError>
+    requires kept { IsKept own.old }
     requires few { length quotas.now < 2 ^ 32 }
-    requires room { length (slot_log slot.old) + sum quotas.now < 2 ^ 32 }
-    ensures { IfOk result (λ seats. IsAway slot.old quotas.now slot.new seats (seats_in seats)) }
+    requires room { length (box_log own.old) + sum quotas.now < 2 ^ 32 }
+    ensures { OnOk result (IsAway own.old quotas.now own.new) }
 {
     if quotas.is_empty() {
-        return Ok(Seats::None);
+        return Ok(());
     }
-    let subs = slot.subs();
-    let whole = mem::replace(slot, DeviceSlot::Out { subs });
-    Seats::open(alloc, whole, quotas)
+    own.share(alloc, quotas)
 }
 
 /// Opens the histories of all devices that a phase opens, with a seat for each channel.
-pub fn reopen_all(
+pub fn share_all(
     alloc: Global,
     most: u32,
     plan: &[ChannelOrder],
-    slots: &mut Vec<DeviceSlot>,
-) -> Result<Vec<Seats>, AllocError>
-    requires can { CanOpenAll plan.now slots.old.items }
-    requires ready { All (IsReady (4096 * most)) slots.old.items }
+    boxes: &mut Vec<DeviceBox>,
+) -> Result<(), AllocError>
+    requires can { CanOpenAll plan.now boxes.old.items }
+    requires ready { All (IsReady (4096 * most)) boxes.old.items }
     requires most { most ≤ 20000 }
-    requires few { length slots.old.items ≤ 16 }
-    ensures { IfOk result (λ seats. AreAway plan.now slots.old.items slots.new.items seats.items) }
+    requires few { length boxes.old.items ≤ 16 }
+    ensures { OnOk result (AreAway plan.now boxes.old.items boxes.new.items) }
 {
-    let mut seats = Vec::with_capacity(alloc, slots.len())?;
-    for device in 0..slots.len() {
+    for device in 0..boxes.len() {
         let quotas = quotas_of(alloc, device as u32, plan)?;
-        seats.push_reserved(reopen(alloc, &mut slots[device], &quotas)?);
+        share(alloc, &mut boxes[device], &quotas)?;
     }
-    Ok(seats)
-}
-
-/// The kind of a seat's device.
-fn kind_at(seat: &DeviceSeat) -> DeviceKind
-    ensures { result ≡ kind_at seat.now }
-{
-    match seat {
-        DeviceSeat::Beat(_) => DeviceKind::Beat,
-        DeviceSeat::Down(_) => DeviceKind::Down,
-        DeviceSeat::Disk(_) => DeviceKind::Disk,
-        DeviceSeat::Net(_) => DeviceKind::Net,
-    }
+    Ok(())
 }
 
 /// The two workers of a channel, with this seat of its device, which has so many channels beside the first one. The device's end stops where the order says,
@@ -105,7 +86,7 @@ fn open_channel(
     requires left { left_at seat ≡ length channel.asks.items }
     ensures { IfOk result (IsOpenedWith settings.now channel.opening.relid (order_with channel (kind_at seat) subs) seat) }
 {
-    let kind = kind_at(&seat);
+    let kind = seat.kind();
     open_pair(
         alloc,
         kind,
@@ -125,19 +106,20 @@ pub fn open_all(
     alloc: Global,
     plan: Vec<ChannelOrder>,
     settings: &[Settings],
-    slots: &[DeviceSlot],
-    seats: &mut Vec<Seats>,
+    boxes: &mut Vec<DeviceBox>,
 ) -> Result<Vec<Pair>, AllocError>
-    requires away { (old : List OneSlot) × CanOpenAll plan.items old × AreAway plan.items old slots.now seats.old.items }
-    requires settings { length settings.now ≡ length slots.now }
+    requires away { (old : List OneBox) × CanOpenAll plan.items old × AreAway plan.items old boxes.old.items }
+    requires settings { length settings.now ≡ length boxes.old.items }
     requires limits { All HasLimits settings.now }
-    ensures { IfOk result (λ pairs. (old : List OneSlot) → CanOpenAll plan.items old → AreAway plan.items old slots.now seats.old.items → AllOpened settings.now plan.items old seats.old.items seats.new.items pairs.items) }
+    ensures { IfOk result (λ pairs. (old : List OneBox) → CanOpenAll plan.items old → AreAway plan.items old boxes.old.items → AllOpened settings.now plan.items old boxes.old.items boxes.new.items pairs.items) }
 {
     let mut pairs = Vec::with_capacity(alloc, plan.len())?;
     for channel in plan {
         let at = channel.opening.device as usize;
-        let seat = seats[at].take_first();
-        let pair = open_channel(alloc, &settings[at], slots[at].subs(), channel, seat)?;
+        let own = &mut boxes[at];
+        let subs = own.subs();
+        let seat = own.take_first();
+        let pair = open_channel(alloc, &settings[at], subs, channel, seat)?;
         pairs.push(pair)?;
     }
     Ok(pairs)

@@ -1,6 +1,6 @@
 //! The run of a script, phase by phase.
 ghost use Rattle.std.specs.Prelude.{◌≡◌, ◌+◌, ◌<◌, ◌≤◌, ◌∷◌, [], ◌++◌, List, length, map, take, drop, replicate, None, All, IfOk, OnOk, IsTrue, vec_capacity, ◌↔◌, count_by, MatchOption, ⊤};
-ghost use Rattle.bus_model.specs.Logs.{log_of, EachHistory};
+ghost use Rattle.device_kinds.specs.Logs.{log_of, EachHistory};
 ghost use Rattle.bus_model.specs.Run.{IsBusRun};
 ghost use Rattle.script_lines.specs.Parts.{parts, offered, offered_by};
 ghost use Rattle.script_lines.specs.declared.line.Line.{Line as OneLine};
@@ -8,14 +8,13 @@ ghost use Rattle.script_lines.specs.declared.line.DeviceSpec.{DeviceSpec as OneS
 ghost use Rattle.bus_script.specs.Report.{prints};
 ghost use Rattle.script_lines.specs.WellFormed.{AllRight};
 ghost use Rattle.script_phases.specs.Openings.{phases};
-ghost use Rattle.bus_run.specs.DeviceSlot.{IsKept, spec_of, setup_of, slot_log};
+ghost use Rattle.device_any.specs.Boxes.{IsKept, box_log, setup_of, spec_of};
 ghost use Rattle.bus_run.specs.Opened.{AllRanAsSet};
 ghost use Rattle.bus_run.specs.Parts.{AreOpen};
 ghost use Rattle.control_run.specs.Path.{IsSamePath};
 ghost use Rattle.bus_run.specs.Whole.{AreFresh, CanMake, RunsSoFar, behind, setups_from};
 
 use crate::bads::bad_places;
-use crate::device_slot::{DeviceSlot, history_of, new_slot};
 use crate::phase::run_script_phase;
 use crate::phase_work::PhaseWork;
 use crate::settings::{Settings, all_settings};
@@ -24,9 +23,9 @@ use bus_plan::{Ending, agreed, first_part};
 use bus_script::{Line, LineResult, Script, What};
 use contact::Version;
 use control_run::ControlPath;
+use device_any::DeviceBox;
 use io_edge::Gate;
 use std::alloc::{AllocError, Global};
-use std::mem;
 use std::snapshot::Snapshot;
 use std::sync::Wait;
 use std::thread::Threads;
@@ -65,7 +64,7 @@ impl ScriptRun {
 pub struct Runner {
     // the version that both ends agreed on
     version: Version,
-    slots: Vec<DeviceSlot>,
+    boxes: Vec<DeviceBox>,
     settings: Vec<Settings>,
     // how an earlier phase ended each device
     ended: Vec<Option<Ending>>,
@@ -85,17 +84,17 @@ pub struct Runner {
 /// The device that a line offers, with the bad places of all lines.
 fn offer(
     alloc: Global,
-    slots: &mut Vec<DeviceSlot>,
+    boxes: &mut Vec<DeviceBox>,
     lines: &[Line],
     what: &What,
 ) -> Result<(), AllocError>
-    requires { CanMake lines.now (length slots.old.items) what.now }
-    ensures { OnOk result ((kinds : List OneSpec) → AreFresh lines.now kinds slots.old.items → AreFresh lines.now (kinds ++ offered_by what.now) slots.new.items) }
+    requires { CanMake lines.now (length boxes.old.items) what.now }
+    ensures { OnOk result ((kinds : List OneSpec) → AreFresh lines.now kinds boxes.old.items → AreFresh lines.now (kinds ++ offered_by what.now) boxes.new.items) }
 {
     match what {
         What::Offer { name: _, device } => {
-            let bad = bad_places(alloc, slots.len(), lines)?;
-            slots.push(new_slot(alloc, *device, &bad)?)?;
+            let bad = bad_places(alloc, boxes.len(), lines)?;
+            boxes.push(DeviceBox::make(alloc, *device, &bad)?)?;
             Ok(())
         }
         _ => Ok(()),
@@ -103,27 +102,26 @@ fn offer(
 }
 
 /// The devices that a script offers.
-fn new_slots(alloc: Global, lines: &[Line]) -> Result<Vec<DeviceSlot>, AllocError>
+fn new_boxes(alloc: Global, lines: &[Line]) -> Result<Vec<DeviceBox>, AllocError>
     requires { AllRight (offered lines.now) lines.now }
-    ensures { IfOk result (λ slots. AreFresh lines.now (offered lines.now) slots.items) }
+    ensures { IfOk result (λ boxes. AreFresh lines.now (offered lines.now) boxes.items) }
 {
-    let mut slots = Vec::new(alloc);
+    let mut boxes = Vec::new(alloc);
     for line in lines {
-        offer(alloc, &mut slots, lines, &line.what)?;
+        offer(alloc, &mut boxes, lines, &line.what)?;
     }
-    Ok(slots)
+    Ok(boxes)
 }
 
 /// What the devices served.
-fn histories_of(alloc: Global, mut slots: Vec<DeviceSlot>) -> Result<Vec<DeviceHistory>, AllocError>
-    requires { All IsKept slots.items }
-    ensures logs { IfOk result (λ histories. map log_of histories.items ≡ map slot_log slots.items) }
-    ensures legal { IfOk result (λ histories. (lines : List OneLine) → map setup_of slots.items ≡ setups_from lines 0 (map spec_of slots.items) → EachHistory lines 0 (map spec_of slots.items) histories.items) }
+fn histories_of(alloc: Global, boxes: Vec<DeviceBox>) -> Result<Vec<DeviceHistory>, AllocError>
+    requires { All IsKept boxes.items }
+    ensures logs { IfOk result (λ histories. map log_of histories.items ≡ map box_log boxes.items) }
+    ensures legal { IfOk result (λ histories. (lines : List OneLine) → map setup_of boxes.items ≡ setups_from lines 0 (map spec_of boxes.items) → EachHistory lines 0 (map spec_of boxes.items) histories.items) }
 {
     let mut histories = Vec::new(alloc);
-    for i in 0..slots.len() {
-        let slot = mem::replace(&mut slots[i], DeviceSlot::Out { subs: 0 });
-        histories.push(history_of(slot))?;
+    for own in boxes {
+        histories.push(own.into_history())?;
     }
     Ok(histories)
 }
@@ -185,14 +183,14 @@ impl Runner {
         ensures path { IfOk result (λ runner. runner.path.value ≡ path.now) }
     {
         let lines = script.lines();
-        let slots = new_slots(alloc, lines)?;
-        let settings = all_settings(alloc, slots.len(), lines)?;
-        let ended = none_ended(alloc, slots.len())?;
-        let relid = first_relid(slots.len());
+        let boxes = new_boxes(alloc, lines)?;
+        let settings = all_settings(alloc, boxes.len(), lines)?;
+        let ended = none_ended(alloc, boxes.len())?;
+        let relid = first_relid(boxes.len());
         let results = new_results(alloc, lines)?;
         Ok(Runner {
             version: agreed(lines),
-            slots,
+            boxes,
             settings,
             ended,
             phase: 0,
@@ -253,7 +251,7 @@ impl Runner {
             &self.settings,
             &mut self.ended,
             &mut self.relid,
-            &mut self.slots,
+            &mut self.boxes,
             &mut self.settled,
             &mut self.results,
             &mut self.work,
@@ -271,14 +269,14 @@ impl Runner {
         ensures path { IfOk result (λ ran. ran.path.value ≡ self.path.value) }
     {
         let Runner {
-            slots,
+            boxes,
             settled,
             results,
             work,
             path,
             ..
         } = self;
-        let histories = histories_of(alloc, slots)?;
+        let histories = histories_of(alloc, boxes)?;
         Ok(ScriptRun {
             settled,
             histories,

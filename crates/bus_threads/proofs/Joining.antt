@@ -22,7 +22,7 @@ use Rattle.channel_protocol.proofs.PacketRuns.{packets_run}
 use Rattle.channel_model.specs.Server.{answered}
 use Rattle.channel_model.specs.Channel.{AllAsk, AllFixed, AskerEnds, AskerSettles, IsRequestPlan, ServerEnds, asks_of as channel_asks, count_of, held_of, IsProtocolRun as Runs}
 use Rattle.channel_model.proofs.Ends.{joins, settles_in_order}
-use Rattle.bus_model.specs.Served.{Served}
+use Rattle.device_kinds.specs.Served.{Served}
 use Rattle.bus_model.specs.Orders.{Order, plan_of}
 use Rattle.bus_model.specs.Channel.{replies_to}
 use Rattle.bus_threads.specs.Pairs.{LeavesOne}

@@ -16,9 +16,9 @@ use Rattle.channel_model.specs.Channel.{count_of, held_of}
 use Rattle.channel_model.specs.Roles.{side_that_asks}
 use Rattle.worker_pair.specs.Pairs.{AreMadeAt}
 use Rattle.worker_pair.specs.Plans.{AsksFor, IsMade, Planned, ServesFor}
-use Rattle.worker_pair.specs.Seats.{served_at}
+use Rattle.device_any.specs.Seats.{served_at}
 use Rattle.worker_pair.specs.Workers.{end_at, relid_at, HasWindow}
-use Rattle.worker_pair.specs.declared.device_seat.DeviceSeat.{DeviceSeat}
+use Rattle.device_any.specs.declared.device_seat.DeviceSeat.{DeviceSeat}
 use Rattle.worker_pair.specs.declared.worker.Worker.{Worker}
 use Rattle.worker_pair.specs.declared.worker.Worker.TheVariants.{Asks, Serves}
 use Rattle.bus_threads.specs.Pairs.{Pairing, AreOnChannel, MadeFor, Opens, OpensAt}

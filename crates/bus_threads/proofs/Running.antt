@@ -1,5 +1,5 @@
 -- What both workers of a pair come to, once they ended.
-use Rattle.std.proofs.Common.{◌≡◌, ◌≤◌, ◌+◌, ℕ, length, filter, arith, Bool, true, false, List, [], ◌++◌, map, Option, refl, sym, ap, ◌∙◌, subst}
+use Rattle.std.proofs.Common.{◌≡◌, ◌≤◌, ◌+◌, ℕ, length, filter, arith, Bool, true, false, List, [], ◌∷◌, ◌++◌, map, Option, refl, sym, ap, ◌∙◌, subst}
 use Rattle.std.specs.Prelude.{take}
 use Rattle.std.proofs.lemmas.List.{length-map, append-nil}
 use Rattle.page_kept.specs.declared.item.Item.{Item}
@@ -12,7 +12,7 @@ use Rattle.bus_model.specs.Orders.{Order, plan_of}
 use Rattle.std.specs.List.{AllByRecursion}
 use Rattle.bus_model.specs.Channel.{IsChannelRun, Carries, is_of_asker, replies_to, sent_by, got_by, other}
 use Rattle.bus_model.proofs.FromLists.{serves_first_lem}
-use Rattle.bus_model.specs.Served.{Served}
+use Rattle.device_kinds.specs.Served.{Served}
 use Rattle.script_lines.specs.declared.line.Ask.{Ask}
 use Rattle.bus_script.specs.declared.outcome.Reply.{Reply}
 use Rattle.device_formats.specs.Formats.{besides_on, format_of}
@@ -20,7 +20,6 @@ use Rattle.device_formats.specs.Wants.{startup}
 use Rattle.device_formats.specs.ItemFormats.{item_format}
 use Rattle.device_formats.proofs.FormatLaws.{keeps, start_is_fixed}
 use Rattle.device_formats.proofs.ItemFormatLaws.{keeps_items}
-use Rattle.channel_protocol.proofs.PacketRuns.{packets_bare}
 use Rattle.device_formats.specs.ChannelScript.{ChannelScript, asks_of}
 use Rattle.device_formats.specs.declared.want.Want.{Want}
 use Rattle.device_formats.specs.declared.want.Want.TheVariants.{Script}
@@ -38,16 +37,16 @@ use Rattle.worker_port.specs.Rooms.{AskedWithin, AskLacksFor, has_room, is_asked
 use Rattle.worker_server.specs.Serving.{Serving, EndsAll, EndsBy, calls_behind}
 use Rattle.worker_port.specs.declared.ended.Ended.{Ended}
 use Rattle.worker_port.specs.declared.ended.Ended.TheVariants.{Marked, PeerMarked, Room, Broken}
-use Rattle.worker_port.specs.Line.{IsLine, Line, line_of}
-use Rattle.worker_port.proofs.ItemRuns.{items_got, items_run, items_sent}
+use Rattle.worker_port.specs.Line.{IsLine, Line, line_of, whole}
+use Rattle.worker_port.proofs.ItemRuns.{bare_run, items_got, items_packets, items_sent}
 use Rattle.worker_port.proofs.RoomLaws.{never_lacks}
 use Rattle.worker_pair.specs.Leaving.{Leaves, LeavesAsked, LeavesServed, WorkerDone, items_in, told_at}
 use Rattle.worker_pair.specs.Pairs.{ArePair, PlansAgree}
-use Rattle.worker_pair.specs.Seats.{served_at, device_place, IsSameSeat, at_guest, at_host}
-use Rattle.worker_pair.specs.declared.device_seat.DeviceSeat.{DeviceSeat}
+use Rattle.device_any.specs.Seats.{served_at, device_place, IsSameSeat}
+use Rattle.worker_pair.specs.Seats.{at_guest, at_host}
+use Rattle.device_any.specs.declared.device_seat.DeviceSeat.{DeviceSeat}
 use Rattle.worker_pair.specs.declared.worker.Worker.{Worker}
 use Rattle.worker_pair.specs.declared.worker.Worker.TheVariants.{Asks, Serves}
-use Rattle.worker_pair.proofs.SeatLaws.{same_place}
 use Rattle.bus_threads.specs.Pairs.{MadeFor, MarkedFirst, RunsPair, ComesBack, ended_at, first_of, is_whole}
 use Rattle.bus_threads.specs.declared.pair.PairDone.{PairDone}
 use Rattle.bus_threads.proofs.Alone.{alone}
@@ -160,7 +159,7 @@ ran order seat earlier a s asked served lists side at_side made ended =
     record {
       before = ap (λ (l : List Served). take (length l) all) (sym made.before) ∙ (ended.server_leaves.before ∙ made.before);
       channel = record { carried = carried; alone = only; serves = serves_first_lem (side_that_asks order.kind) order lists calls made.can carried };
-      same = same_place seat ended.server_leaves.back (ended.server_leaves.place ∙ ap device_place made.seat_is);
+      same = ended.server_leaves.place ∙ ap device_place made.seat_is;
       serials = ended.server_leaves.serials ∙ ap (map (λ c. c.serial)) behind;
       replies = told_is order (items_in asked.end) (items_in served.end) calls told both;
       marks = marked_first order.stop (length order.asks) asked.ended served.ended (items_in asked.end) (items_in served.end) at.one (asks_so _ asked.ended _ _ _ whole.0 ended.asker_leaves.asks) (serves_so _ _ served.ended s (line_of (λ i. i) served.end) _ whole.1 ended.server_leaves.serves)
@@ -179,7 +178,7 @@ comes_back : (s : Serving ChannelScript DeviceSeat TableSeat Ask Reply) (served 
 comes_back s served seat is leaves = record {
   same = leaves.back;
   is_back = is ∙ leaves.seat;
-  place = same_place s.responder.seat leaves.back leaves.place;
+  place = leaves.place;
 }
 
 -- what a channel comes to is put together from what both workers leave
@@ -205,12 +204,16 @@ none_before {A} all front back is none = is ∙ ap (λ (l : List A). l ++ back) 
 none_after : {A : Type 0} (all front back : List A) → all ≡ front ++ back → back ≡ [] → all ≡ front
 none_after {A} all front back is none = is ∙ ap (λ (l : List A). front ++ l) none ∙ append-nil front
 
+same_items : (is : List Item) → map (λ (i : Item). i) is ≡ is
+same_items [] = refl
+same_items (i ∷ is) = ap (λ (l : List Item). i ∷ l) (same_items is)
+
 -- the packets that an end sent and got are those of its items
 sent_is : (e : Seen TableSeat) → IsLine told_at e → sent_of e.state.past ≡ packets (sent_of (items_in e))
-sent_is e h = h.sent ∙ (sym (packets_bare e.state.sent) ∙ ap packets (sym (items_sent (λ i. i) e h)))
+sent_is e h = h.sent ∙ (sym (items_packets told_at e h).0 ∙ ap packets (sym (items_sent (λ i. i) e h ∙ same_items (whole e.state.sent e.state.pages.sent))))
 
 got_is : (e : Seen TableSeat) → IsLine told_at e → got_of e.state.past ≡ packets (got_of (items_in e))
-got_is e h = h.got ∙ (sym (packets_bare e.state.got) ∙ ap packets (sym (items_got (λ i. i) e h)))
+got_is e h = h.got ∙ (sym (items_packets told_at e h).1 ∙ ap packets (sym (items_got (λ i. i) e h ∙ same_items (whole e.state.got e.state.pages.got))))
 
 joined : (asker server : Seen TableSeat) (lists : Lists) (side : Side) → IsLine told_at asker → IsLine told_at server → AreOfOneRun (items_in asker) (items_in server) → sent_by side lists ≡ sent_of asker.state.past → got_by side lists ≡ got_of asker.state.past
     → sent_by (other side) lists ≡ sent_of server.state.past → got_by (other side) lists ≡ got_of server.state.past → Joins asker server lists side
@@ -221,7 +224,7 @@ guest_asks a s guest host done closes = record {
   agree = closes.pair.roles;
   asker_leaves = closes.guest_leaves;
   server_leaves = closes.host_leaves;
-  joins = joined guest.end host.end done.settled Guest closes.guest_leaves.stands closes.host_leaves.stands (items_run (λ i. i) guest.end host.end closes.guest_leaves.stands closes.host_leaves.stands closes.run) closes.guest_sent closes.guest_got closes.host_sent closes.host_got;
+  joins = joined guest.end host.end done.settled Guest closes.guest_leaves.stands closes.host_leaves.stands (bare_run (λ i. i) guest.end host.end closes.guest_leaves.stands closes.host_leaves.stands closes.run (closes.guest_leaves.end.pages ∙ closes.pair.bare.0) (closes.host_leaves.end.pages ∙ closes.pair.bare.1)) closes.guest_sent closes.guest_got closes.host_sent closes.host_got;
 }
 
 host_asks : (a : Asking ChannelScript TableSeat Reply) (s : Serving ChannelScript DeviceSeat TableSeat Ask Reply) (guest host : WorkerDone) (done : PairDone) → Closes (Serves s) (Asks a) guest host done → BothLeave a s host guest done.settled Host
@@ -229,7 +232,7 @@ host_asks a s guest host done closes = record {
   agree = closes.pair.roles;
   asker_leaves = closes.host_leaves;
   server_leaves = closes.guest_leaves;
-  joins = joined host.end guest.end done.settled Host closes.host_leaves.stands closes.guest_leaves.stands (ends_exchanged _ _ (items_run (λ i. i) guest.end host.end closes.guest_leaves.stands closes.host_leaves.stands closes.run)) closes.host_sent closes.host_got closes.guest_sent closes.guest_got;
+  joins = joined host.end guest.end done.settled Host closes.host_leaves.stands closes.guest_leaves.stands (ends_exchanged _ _ (bare_run (λ i. i) guest.end host.end closes.guest_leaves.stands closes.host_leaves.stands closes.run (closes.guest_leaves.end.pages ∙ closes.pair.bare.0) (closes.host_leaves.end.pages ∙ closes.pair.bare.1))) closes.host_sent closes.host_got closes.guest_sent closes.guest_got;
 }
 
 pub runs_pair : (g h : Worker) (guest host : WorkerDone) (done : PairDone) → Closes g h guest host done → RunsPair (record { guest = g; host = h }) done

@@ -3,17 +3,18 @@ use Rattle.std.specs.Prelude.{ℕ, ◌≡◌, ◌<◌, ◌≤◌, ◌⊎◌, Boo
 use Rattle.ring_seat.specs.declared.table_seat.TableSeat.{TableSeat}
 use Rattle.std.specs.List.{AllByRecursion, filter_map}
 use Rattle.bus_model.specs.Orders.{Order, startup_of}
-use Rattle.bus_model.specs.Served.{Served}
+use Rattle.device_kinds.specs.Served.{Served}
 use Rattle.bus_model.specs.Channel.{IsChannelRun, served_count, is_held, other, replies_to}
 use Rattle.script_lines.specs.declared.line.Ask.{Ask}
 use Rattle.bus_script.specs.declared.outcome.Reply.{Reply}
 use Rattle.device_formats.specs.Formats.{has_answer_on}
 use Rattle.device_formats.specs.ChannelScript.{ChannelScript}
 use Rattle.device_formats.specs.Wants.{IsAskable}
-use Rattle.worker_pair.specs.Seats.{served_at, IsSameSeat, at_guest, at_host}
+use Rattle.device_any.specs.Seats.{served_at, IsSameSeat}
+use Rattle.worker_pair.specs.Seats.{at_guest, at_host}
 use Rattle.worker_pair.specs.Pairs.{ArePair}
 use Rattle.worker_pair.specs.Workers.{end_at, relid_at, HasWindow, IsOfSide}
-use Rattle.worker_pair.specs.declared.device_seat.DeviceSeat.{DeviceSeat}
+use Rattle.device_any.specs.declared.device_seat.DeviceSeat.{DeviceSeat}
 use Rattle.worker_pair.specs.declared.guest_seat.GuestSeat.{GuestSeat}
 use Rattle.worker_pair.specs.declared.host_seat.HostSeat.{HostSeat}
 use Rattle.worker_pair.specs.declared.worker.Worker.{Worker}

@@ -2,16 +2,17 @@
 ghost use Rattle.std.specs.Prelude.{◌≡◌, ◌≤◌, ◌*◌, [], length, IfOk};
 ghost use Rattle.worker_pair.specs.Pairs.{ArePair};
 ghost use Rattle.worker_pair.specs.Plans.{AllCarried, CanStop, stop_of};
-ghost use Rattle.worker_pair.specs.Seats.{served_at, kind_at, left_at};
+ghost use Rattle.device_any.specs.Seats.{served_at, kind_at, left_at};
 ghost use Rattle.bus_threads.specs.Pairs.{AreOnChannel, Opens};
 
 use crate::Pair;
 use bus_script::Ask;
 use chan_state::Stop;
 use contact::DeviceKind;
+use device_any::DeviceSeat;
 use ring_seat::ChannelMem;
 use std::alloc::{AllocError, Global};
-use worker_pair::{ChannelPlan, DeviceSeat, GuestWorker, HostWorker, make_both};
+use worker_pair::{ChannelPlan, GuestWorker, HostWorker, make_both};
 
 // A pair of two workers of one channel.
 fn paired(guest: GuestWorker, host: HostWorker) -> Pair

@@ -4,12 +4,13 @@ ghost use Rattle.bus_threads.specs.Pairs.{IsPaired, RunsPair, serving_of};
 
 use crate::close::close;
 use bus_script::Reply;
+use device_any::DeviceSeat;
 use io_edge::Gate;
 use ring_seat::Settled;
 use std::marker::Model;
 use std::snapshot::Snapshot;
 use std::sync::Wait;
-use worker_pair::{DeviceSeat, GuestSeat, GuestWorker, HostSeat, HostWorker, Worker, run_both};
+use worker_pair::{GuestSeat, GuestWorker, HostSeat, HostWorker, Worker, run_both};
 use worker_port::Ended;
 
 /// The two workers of a channel, before they run. They have the ends of one channel, one asks and the other serves, and the one that serves made room for

@@ -28,9 +28,9 @@ use Rattle.control_model.specs.Guest.{GuestSeen, can_begin, idle, guest_begins}
 use Rattle.control_model.specs.Host.{HostSeen, host_can_begin, next_end, rescinded_among, without_its, host_begins}
 use Rattle.control_model.specs.Stand.{EndsAt, offered_before, offered_by, marked, guest_is, host_is, guest_before, host_before, Stand, Agreed, Meet, handles, vps_before}
 use Rattle.control_model.specs.GuestAt.{guest_from, host_from, end_to_say, end_to_hear, to_say, to_hear, GuestStands}
-use Rattle.control_model.specs.GuestAt.GuestStands.{fresh, proposes, asks, contacted, offers, lists, opens, moves, started, closes, gives_back, gives_sub_back, ended, leaves, is_over}
+use Rattle.control_model.specs.GuestAt.GuestStands.{fresh, proposes, asks, contacted, offers, dials, lists, opens, moves, started, closes, gives_back, gives_sub_back, ended, leaves, is_over}
 use Rattle.control_model.specs.HostAt.{host_end_to_say, host_end_to_hear, host_to_say, host_to_hear, live_ones, lists_but, HostStands}
-use Rattle.control_model.specs.HostAt.HostStands.{fresh as IsFresh, answers as IsAnswering, accepts as IsAccepting, contacted as IsContacted, lists as IsListing, listed as IsListed, moves as IsMoving, started as IsStarted, closes as IsClosing, tears as IsTearing, takes_back as IsTakingBack, ended as IsEnded, leaves as IsLeaving, is_over as IsDone}
+use Rattle.control_model.specs.HostAt.HostStands.{fresh as IsFresh, answers as IsAnswering, accepts as IsAccepting, contacted as IsContacted, connects as IsConnecting, lists as IsListing, listed as IsListed, moves as IsMoving, started as IsStarted, closes as IsClosing, tears as IsTearing, takes_back as IsTakingBack, ended as IsEnded, leaves as IsLeaving, is_over as IsDone}
 use Rattle.control_laws.proofs.NextOne.{guest_next_awaits, guest_next_stands, guest_next_sends, host_next_awaits, host_next_stands, host_next_done, host_next_sends}
 use Rattle.control_laws.proofs.Logs.{Logs, a_guest, a_host}
 use Rattle.control_laws.proofs.Marks.{by_test, marked_here, stand_like}
@@ -229,6 +229,7 @@ guest_begins_so plan logs before awaits version channels part planned (contacted
     let same_part : PhaseStart 0 ≡ part = cc in
     subst (GuestBegun plan (a_guest plan logs (Some Contact) Nothing (Some v) cs)) same_part (guest_phase plan logs (Some Contact) v cs 0 planned (omega (arith, some)) meet refl refl)
 guest_begins_so plan logs before awaits version channels part planned (offers v cs phase place done first offered o left at is_first subs meet) can is = absurd (cc)
+guest_begins_so plan logs before awaits version channels part planned (dials v cs phase place done o left at asked meet) can is = absurd (cc)
 guest_begins_so plan logs before awaits version channels part planned (lists v cs phase place done o left at meet) can is = absurd (cc)
 guest_begins_so plan logs before awaits version channels part planned (opens v cs phase place done o left at meet) can is = absurd (cc)
 guest_begins_so plan logs before awaits version channels part planned (moves v cs phase place done o left in_plan ms at answers meet) can is = absurd (cc)
@@ -268,6 +269,7 @@ host_begins_so plan logs before awaits version channels assembly tried pieces pa
     let h : HostSeen = a_host plan logs (Some Contact) HostNothing (Some v) cs (live_ones []) in
     let same_part : PhaseStart 0 ≡ part = cc in
     so plan h part (subst (HostBegun plan h) same_part (host_phase plan logs (Some Contact) v cs 0 planned (omega (arith, some)) meet refl refl))
+host_begins_so plan logs before awaits version channels assembly tried pieces part planned (IsConnecting v cs phase place done o left at asked meet) can is = absurd (cc)
 host_begins_so plan logs before awaits version channels assembly tried pieces part planned (IsListing v cs phase place done o left s m ms at meet list) can is = absurd (cc)
 host_begins_so plan logs before awaits version channels assembly tried pieces part planned (IsListed v cs phase place done o left at meet) can is = absurd (cc)
 host_begins_so plan logs before awaits version channels assembly tried pieces part planned (IsMoving v cs phase place done o left in_plan ms at meet) can is = absurd (cc)

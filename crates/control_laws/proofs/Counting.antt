@@ -1,5 +1,5 @@
 -- How many messages can be on their way, by where both sides stand: what one has still to hear is what is on its way to it, and what the other has still to say.
-use Rattle.std.proofs.Common.{◌≡◌, ◌≢◌, ◌∙◌, ℕ, zero, suc, ◌+◌, ◌*◌, ◌-◌, ◌<◌, ◌≤◌, ◌&&◌, Bool, true, false, List, [], ◌∷◌, ◌++◌, cond, filter, is_some, length, map, drop, replicate, Option, Some, All, if◌then◌else◌, refl, sym, ap, append_assoc, length-append, length-drop, arith}
+use Rattle.std.proofs.Common.{◌≡◌, ◌≢◌, ◌∙◌, ℕ, zero, suc, ◌+◌, ◌*◌, ◌-◌, ◌<◌, ◌≤◌, ◌&&◌, Bool, true, false, List, [], ◌∷◌, ◌++◌, cond, filter, is_some, length, map, drop, replicate, Option, Some, None, All, if◌then◌else◌, refl, sym, ap, append_assoc, length-append, length-drop, arith}
 use Rattle.std.specs.List.{AllByRecursion, flat_map}
 use Rattle.std.proofs.lemmas.List.{length-map}
 use Rattle.std.proofs.lemmas.List.Concat.{flat_map-cons}
@@ -20,15 +20,15 @@ use Rattle.control_model.specs.declared.guest_wait.GuestWait.{GuestWait}
 use Rattle.control_model.specs.declared.guest_wait.GuestWait.TheVariants.{SubOffer}
 use Rattle.control_model.specs.declared.host_wait.HostWait.{HostWait}
 use Rattle.control_model.specs.Plan.{BusPlan, movers, vp_for, is_sub, first_subs, subs_next, closing_at, IsOpening, list_pages, IsPlan, phase_of, closing_of}
-use Rattle.control_model.specs.Messages.{propose, request, delivered, pages_from, open_on, modify, modified, offer_sub, close, teardown, torndown, rescind, release, farewell}
-use Rattle.control_model.specs.Said.{agreed, answer_to, moved, guest_moves, host_moves, guest_opens, host_opens_all, guest_closes, host_closes, only_sub}
+use Rattle.control_model.specs.Messages.{propose, request, delivered, pages_from, created, open_on, opened, modify, modified, offer_sub, close, teardown, torndown, rescind, release, farewell}
+use Rattle.control_model.specs.Said.{agreed, answer_to, moved, guest_moves, host_moves, dials, dial_offers, guest_lists, guest_opens, host_opens_all, guest_closes, host_closes, only_sub}
 use Rattle.control_model.specs.Guest.{offered_channel, waits_for_nothing}
 use Rattle.control_model.specs.Host.{host_waits_for_nothing}
-use Rattle.control_model.specs.Stand.{At, EndsAt, Tries, Agreed}
-use Rattle.control_model.specs.GuestAt.{guest_from, host_from, contact_to_say, contact_to_hear, opens_listed, answers_open, from_first_sub, start_to_say, start_to_hear, moves_to_say, moves_to_hear, gives_sub, gives_one, takes_one, end_to_say, end_to_hear, to_say, to_hear, GuestStands}
-use Rattle.control_model.specs.GuestAt.GuestStands.{fresh, proposes, asks, contacted, offers, lists, opens, moves, started, closes, gives_back, gives_sub_back, ended, leaves, is_over}
+use Rattle.control_model.specs.Stand.{At, EndsAt, count_dialed, Tries, Agreed}
+use Rattle.control_model.specs.GuestAt.{guest_from, host_from, contact_to_say, contact_to_hear, lists_dialed, opens_listed, answers_list, answers_open, from_first_sub, start_to_say, start_to_hear, moves_to_say, moves_to_hear, gives_sub, gives_one, takes_one, end_to_say, end_to_hear, to_say, to_hear, GuestStands}
+use Rattle.control_model.specs.GuestAt.GuestStands.{fresh, proposes, asks, contacted, offers, dials as asks_for, lists, opens, moves, started, closes, gives_back, gives_sub_back, ended, leaves, is_over}
 use Rattle.control_model.specs.HostAt.{host_contact_to_say, host_contact_to_hear, host_start_to_say, host_start_to_hear, host_moves_to_say, host_moves_to_hear, tears_down, host_end_to_say, host_end_to_hear, host_to_say, host_to_hear, ListComes, HostStands}
-use Rattle.control_model.specs.HostAt.HostStands.{fresh as IsFresh, answers as IsAnswering, accepts as IsAccepting, contacted as IsContacted, lists as IsListing, listed as IsListed, moves as IsMoving, started as IsStarted, closes as IsClosing, tears as IsTearing, takes_back as IsTakingBack, ended as IsEnded, leaves as IsLeaving, is_over as IsDone}
+use Rattle.control_model.specs.HostAt.HostStands.{fresh as IsFresh, answers as IsAnswering, accepts as IsAccepting, contacted as IsContacted, connects as IsConnecting, lists as IsListing, listed as IsListed, moves as IsMoving, started as IsStarted, closes as IsClosing, tears as IsTearing, takes_back as IsTakingBack, ended as IsEnded, leaves as IsLeaving, is_over as IsDone}
 use Rattle.control_model.proofs.PlanLaws.{offers_length, messages_few}
 use Rattle.control_laws.proofs.Plans.{facts, closing_here}
 use Rattle.control_laws.proofs.Cutting.{by_all}
@@ -66,11 +66,11 @@ count f os place = length (flat_map f (drop place os))
 one_more : (f : Opening → List Msg) (o : Opening) (os : List Opening) → length (flat_map f (o ∷ os)) ≡ length (f o) + length (flat_map f os)
 one_more f o os = ap length (flat_map-cons f o os) ∙ length-append (f o) (flat_map f os)
 
--- one to three for each
-abbrev Some3 : (Opening → List Msg) → List Opening → Type 0
-Some3 f os = AllByRecursion (λ o. (1 ≤ length (f o)) × (length (f o) ≤ 3)) os
+-- one to four for each
+abbrev Some4 : (Opening → List Msg) → List Opening → Type 0
+Some4 f os = AllByRecursion (λ o. (1 ≤ length (f o)) × (length (f o) ≤ 4)) os
 
-steps : (f : Opening → List Msg) (os : List Opening) (j k : ℕ) → j ≤ length os → Some3 f os → count f os j + (j - k) ≤ count f os k + 3 * (k - j)
+steps : (f : Opening → List Msg) (os : List Opening) (j k : ℕ) → j ≤ length os → Some4 f os → count f os j + (j - k) ≤ count f os k + 4 * (k - j)
 steps f [] zero zero few all = omega arith
 steps f [] zero (suc k) few all = omega arith
 steps f [] (suc j) k few all = absurd (omega (arith, few))
@@ -87,7 +87,7 @@ steps f (o ∷ os) (suc j) zero few all =
     omega (arith, more, least, rest)
 steps f (o ∷ os) (suc j) (suc k) few all = let rest = steps f os j k (omega (arith, few)) all.1 in omega (arith, rest)
 
--- what a host says of the openings from a place on, at the start of their phase: two for each, and behind that of a first channel one for each of its sub-channels
+-- what a host says of the openings from a place on, at the start of their phase: two for each and one more for a service's, and behind that of a first channel one for each of its sub-channels
 abbrev opens_count : List Opening → ℕ → ℕ
 opens_count os place = length (host_opens_all (drop place os))
 
@@ -103,46 +103,85 @@ next_one : (os : List Opening) (b : Bool) → length (if b then [] else first_su
 next_one os true = omega arith
 next_one os false = first_few os
 
-one_open : (o : Opening) (os : List Opening) → length (host_opens_all (o ∷ os)) ≡ 2 + (length (subs_next (o ∷ os)) + length (host_opens_all os))
-one_open o os =
+dialed_one : (relid : ℕ) (dialed : Option ℕ) → length (dial_offers relid dialed) ≡ count_dialed dialed
+dialed_one relid None = refl
+dialed_one relid (Some port) = refl
+
+asked_one : (dialed : Option ℕ) → length (dials dialed) ≡ count_dialed dialed
+asked_one None = refl
+asked_one (Some port) = refl
+
+one_dial : (dialed : Option ℕ) → count_dialed dialed ≤ 1
+one_dial None = omega arith
+one_dial (Some port) = omega arith
+
+asks_one : (dialed : Option ℕ) → is_some dialed ≡ true → count_dialed dialed ≡ 1
+asks_one None asked = absurd (cc)
+asks_one (Some port) asked = refl
+
+one_answer : (o : Opening) (os : List Opening) → length (answers_list (o ∷ os)) ≡ 2 + (length (subs_next (o ∷ os)) + length (host_opens_all os))
+one_answer o os =
     let both = length-append (map offer_sub (subs_next (o ∷ os))) (host_opens_all os) in
     let each = length-map (subs_next (o ∷ os)) offer_sub in
     omega (arith, both, each)
 
-opens_steps : (os : List Opening) (j k : ℕ) → j ≤ length os → length os ≤ 16 → opens_count os j + 2 * (j - k) ≤ opens_count os k + 18 * (k - j)
+one_open : (o : Opening) (os : List Opening) → length (host_opens_all (o ∷ os)) ≡ count_dialed o.dialed + length (answers_list (o ∷ os))
+one_open o os =
+    let pair : List Msg = created o.relid o.gpadl ∷ opened o.relid o.relid ∷ [] in
+    let rest : List Msg = map offer_sub (subs_next (o ∷ os)) ++ host_opens_all os in
+    let whole = length-append (dial_offers o.relid o.dialed ++ pair) rest in
+    let front = length-append (dial_offers o.relid o.dialed) pair in
+    let one = dialed_one o.relid o.dialed in
+    omega (arith, whole, front, one)
+
+-- the opening at a place is that of a service's channel
+abbrev dial_first : List Opening → ℕ
+dial_first [] = 0
+dial_first (o ∷ os) = count_dialed o.dialed
+
+abbrev dial_at : List Opening → ℕ → ℕ
+dial_at os place = dial_first (drop place os)
+
+abbrev lists_count : List Opening → ℕ → ℕ
+lists_count os place = length (answers_list (drop place os))
+
+opens_steps : (os : List Opening) (j k : ℕ) → j ≤ length os → length os ≤ 16 → opens_count os j + 2 * (j - k) ≤ opens_count os k + 19 * (k - j)
 opens_steps [] zero zero few small = omega arith
 opens_steps [] zero (suc k) few small = omega arith
 opens_steps [] (suc j) k few small = absurd (omega (arith, few))
 opens_steps (o ∷ os) zero zero few small = omega arith
 opens_steps (o ∷ os) zero (suc k) few small =
     let more = one_open o os in
+    let answer = one_answer o os in
+    let dial = one_dial o.dialed in
     let most = next_one os (is_sub o) in
     let rest = opens_steps os zero k (omega arith) (omega (arith, small)) in
-    omega (arith, more, most, small, rest)
+    omega (arith, more, answer, dial, most, small, rest)
 opens_steps (o ∷ os) (suc j) zero few small =
     let more = one_open o os in
+    let answer = one_answer o os in
     let rest = opens_steps os j zero (omega (arith, few)) (omega (arith, small)) in
-    omega (arith, more, rest)
+    omega (arith, more, answer, rest)
 opens_steps (o ∷ os) (suc j) (suc k) few small = let rest = opens_steps os j k (omega (arith, few)) (omega (arith, small)) in omega (arith, rest)
 
 -- for a sub-channel there is one more at the end
-guest_some : (o : Opening) (b c : Bool) → (1 ≤ length (if b then release o.relid ∷ [] else close o.relid ∷ teardown o ∷ (if c then release o.relid ∷ [] else []))) × (length (if b then release o.relid ∷ [] else close o.relid ∷ teardown o ∷ (if c then release o.relid ∷ [] else [])) ≤ 3)
+guest_some : (o : Opening) (b c : Bool) → (1 ≤ length (if b then release o.relid ∷ [] else close o.relid ∷ teardown o ∷ (if c then release o.relid ∷ [] else []))) × (length (if b then release o.relid ∷ [] else close o.relid ∷ teardown o ∷ (if c then release o.relid ∷ [] else [])) ≤ 4)
 guest_some o true c = (omega arith, omega arith)
 guest_some o false true = (omega arith, omega arith)
 guest_some o false false = (omega arith, omega arith)
 
-host_some : (o : Opening) (b c : Bool) → (1 ≤ length (if b then rescind o.relid ∷ [] else torndown o.gpadl ∷ (if c then rescind o.relid ∷ [] else []))) × (length (if b then rescind o.relid ∷ [] else torndown o.gpadl ∷ (if c then rescind o.relid ∷ [] else [])) ≤ 3)
+host_some : (o : Opening) (b c : Bool) → (1 ≤ length (if b then rescind o.relid ∷ [] else torndown o.gpadl ∷ (if c then rescind o.relid ∷ [] else []))) × (length (if b then rescind o.relid ∷ [] else torndown o.gpadl ∷ (if c then rescind o.relid ∷ [] else [])) ≤ 4)
 host_some o true c = (omega arith, omega arith)
 host_some o false true = (omega arith, omega arith)
 host_some o false false = (omega arith, omega arith)
 
-closes_3 : (os : List Opening) → Some3 guest_closes os
-closes_3 [] = tt
-closes_3 (o ∷ os) = (guest_some o o.rescinded (is_sub o), closes_3 os)
+closes_4 : (os : List Opening) → Some4 guest_closes os
+closes_4 [] = tt
+closes_4 (o ∷ os) = (guest_some o o.rescinded (is_sub o), closes_4 os)
 
-host_closes_3 : (os : List Opening) → Some3 host_closes os
-host_closes_3 [] = tt
-host_closes_3 (o ∷ os) = (host_some o o.rescinded (is_sub o), host_closes_3 os)
+host_closes_4 : (os : List Opening) → Some4 host_closes os
+host_closes_4 [] = tt
+host_closes_4 (o ∷ os) = (host_some o o.rescinded (is_sub o), host_closes_4 os)
 
 -- a page list has one or two messages
 cut_few : (o : Opening) → IsOpening o → (1 ≤ length (cut o.relid o.gpadl (pages_from o))) × (length (cut o.relid o.gpadl (pages_from o)) ≤ 2)
@@ -157,14 +196,17 @@ cut_few o fits =
     cut_some relid handle [] some = absurd (omega (arith, some))
     cut_some relid handle (page ∷ pages) some = omega arith
 
-opens_3 : (os : List Opening) → AllByRecursion IsOpening os → Some3 guest_opens os
-opens_3 [] all = tt
-opens_3 (o ∷ os) all =
+opens_4 : (os : List Opening) → AllByRecursion IsOpening os → Some4 guest_opens os
+opens_4 [] all = tt
+opens_4 (o ∷ os) all =
     let few = cut_few o all.0 in
     let least = few.0 in
     let most = few.1 in
     let both = length-append (cut o.relid o.gpadl (pages_from o)) (open_on o ∷ []) in
-    ((omega (arith, both), omega (arith, both, most)), opens_3 os all.1)
+    let ask = length-append (dials o.dialed) (guest_lists o) in
+    let one = asked_one o.dialed in
+    let dial = one_dial o.dialed in
+    ((omega (arith, both, ask), omega (arith, both, most, ask, one, dial)), opens_4 os all.1)
 
 phase_fits : (plan : BusPlan) (phase : ℕ) → IsPlan plan → phase < length plan.phases → AllByRecursion IsOpening (phase_of plan phase)
 phase_fits plan phase planned less = by_all IsOpening (phase_of plan phase) (All-get_or (λ os. All (λ o. IsOpening o) os) plan.phases phase [] less planned.fits)
@@ -180,9 +222,12 @@ record StartAt (os : List Opening) (place cuts : ℕ) : Type 0 where
   most : cuts ≤ 2
   few : subs ≤ 16
   listed : length (opens_listed (drop place os)) ≡ 1 + count guest_opens os (suc place)
-  answered : length (answers_open (drop place os)) + 1 ≡ opens_count os place
-  created : opens_count os place ≡ 2 + (subs + opens_count os (suc place))
-  whole : count guest_opens os place ≡ cuts + (1 + count guest_opens os (suc place))
+  dial : dial_at os place ≤ 1
+  answered : length (answers_open (drop place os)) + 1 ≡ lists_count os place
+  answering : opens_count os place ≡ dial_at os place + lists_count os place
+  created : lists_count os place ≡ 2 + (subs + opens_count os (suc place))
+  asking : count guest_opens os place ≡ dial_at os place + length (lists_dialed (drop place os))
+  whole : length (lists_dialed (drop place os)) ≡ cuts + (1 + count guest_opens os (suc place))
 
 place_less : (os : List Opening) (place : ℕ) (done : List Opening) (o : Opening) (left : List Opening) → os ≡ done ++ o ∷ left → place ≡ length done → length os ≡ place + suc (length left)
 place_less os place done o left is here = let whole = ap length is in let both = length-append done (o ∷ left) in omega (arith, whole, both, here)
@@ -200,10 +245,18 @@ start_at plan phase place done o left planned at =
     let rest : length (flat_map guest_opens left) ≡ count guest_opens os (suc place) = ap (λ xs. length (flat_map guest_opens xs)) (sym behind) in
     let host_rest : length (host_opens_all left) ≡ opens_count os (suc place) = ap (λ xs. length (host_opens_all xs)) (sym behind) in
     let listed : length (opens_listed (drop place os)) ≡ suc (length (flat_map guest_opens left)) = ap (λ xs. length (opens_listed xs)) here in
-    let answered : length (answers_open (drop place os)) + 1 ≡ length (host_opens_all (o ∷ left)) = ap (λ xs. length (answers_open xs) + 1) here ∙ (omega arith) in
+    let answer : lists_count os place ≡ length (answers_list (o ∷ left)) = ap (λ xs. length (answers_list xs)) here in
+    let answered : length (answers_open (drop place os)) + 1 ≡ length (answers_list (o ∷ left)) = ap (λ xs. length (answers_open xs) + 1) here ∙ (omega arith) in
     let created : opens_count os place ≡ length (host_opens_all (o ∷ left)) = ap (λ xs. length (host_opens_all xs)) here in
+    let mine : dial_at os place ≡ count_dialed o.dialed = ap dial_first here in
+    let most = one_dial o.dialed in
     let one = one_open o left in
+    let two = one_answer o left in
     let whole : count guest_opens os place ≡ length (guest_opens o) + length (flat_map guest_opens left) = ap (λ xs. length (flat_map guest_opens xs)) here ∙ one_more guest_opens o left in
+    let ask = length-append (dials o.dialed) (guest_lists o) in
+    let asked = asked_one o.dialed in
+    let lists_is : length (lists_dialed (drop place os)) ≡ length (lists_dialed (o ∷ left)) = ap (λ xs. length (lists_dialed xs)) here in
+    let lists_all = length-append (guest_lists o) (flat_map guest_opens left) in
     let both = length-append (cut o.relid o.gpadl (pages_from o)) (open_on o ∷ []) in
     record {
       less = omega (arith, many);
@@ -212,10 +265,16 @@ start_at plan phase place done o left planned at =
       most = few.1;
       few = omega (arith, subs_few, many, small);
       listed = omega (arith, listed, rest);
-      answered = omega (arith, answered, created);
-      created = omega (arith, created, one, host_rest);
-      whole = omega (arith, whole, both, rest);
+      dial = omega (arith, mine, most);
+      answered = omega (arith, answered, answer);
+      answering = omega (arith, created, one, mine, answer);
+      created = omega (arith, answer, two, host_rest);
+      asking = omega (arith, whole, ask, asked, mine, lists_is, lists_all);
+      whole = omega (arith, lists_is, lists_all, both, rest);
     }
+
+dial_is : (plan : BusPlan) (phase place : ℕ) (done : List Opening) (o : Opening) (left : List Opening) → At plan phase place done o left → is_some o.dialed ≡ true → dial_at (phase_of plan phase) place ≡ 1
+dial_is plan phase place done o left at asked = ap dial_first (left_at plan phase place done (o ∷ left) at.phase_is at.place_is) ∙ asks_one o.dialed asked
 
 -- the messages of a page list that are still to come are no more than it has
 pieces_few : (done : List Opening) (o : Opening) (s : Assembly) (m : Msg) (ms : List Msg) → ListComes done o s (m ∷ ms) → suc (length ms) ≤ length (cut o.relid o.gpadl (pages_from o))
@@ -232,7 +291,7 @@ record OffersAt (os : List Opening) (place first : ℕ) : Type 0 where
   few : left ≤ 16
   says : length (start_to_say os (SubOffer place)) ≡ count guest_opens os (suc first)
   hears : length (start_to_hear os (SubOffer place)) ≡ left + opens_count os (suc first)
-  held : 2 + (left + opens_count os (suc first)) ≤ opens_count os first
+  held : dial_at os first + (2 + (left + opens_count os (suc first))) ≤ opens_count os first
 
 offers_at : (plan : BusPlan) (phase place : ℕ) (done : List Opening) (first : Opening) (offered : List Opening) (o : Opening) (left : List Opening) → IsPlan plan → At plan phase place (done ++ first ∷ offered) o left → is_sub first ≡ false → AreSubs (offered ++ o ∷ [])
     → OffersAt (phase_of plan phase) place (length done)
@@ -261,6 +320,8 @@ offers_at plan phase place done first offered o left planned at is_first subs =
     let each = length-map (first_subs (drop place os)) offer_sub in
     let here : opens_count os (length done) ≡ length (host_opens_all (first ∷ behind)) = ap (λ xs. length (host_opens_all xs)) drops_first in
     let all = one_open first behind in
+    let two = one_answer first behind in
+    let mine_dial : dial_at os (length done) ≡ count_dialed first.dialed = ap dial_first drops_first in
     let next : length (subs_next (first ∷ behind)) ≡ length (first_subs behind) = ap (λ b. length (if b then [] else first_subs behind)) is_first in
     let run : length (first_subs behind) ≡ length (offered ++ first_subs (o ∷ left)) = ap length (first_run offered (o ∷ left) (all_front (λ p. is_sub p ≡ true) offered (o ∷ []) subs).0) in
     let run_parts = length-append offered (first_subs (o ∷ left)) in
@@ -272,7 +333,7 @@ offers_at plan phase place done first offered o left planned at is_first subs =
       few = omega (arith, few, long, parts, more, small);
       says = says;
       hears = omega (arith, hears, each, first_is, back_long, host_rest);
-      held = omega (arith, here, all, next, run, run_parts, run_mine, host_rest);
+      held = omega (arith, here, all, two, mine_dial, next, run, run_parts, run_mine, host_rest);
     }
 
 -- and at its end, in the order in which the channels are closed
@@ -431,25 +492,24 @@ all_answered plan v os place planned is answers here =
     omega (arith, all, part, less)
 
 -- the start of a phase
-module _ (os : List Opening) (a b : ℕ) (all : Some3 guest_opens os) (small : length os ≤ 16) where
-  created_listing : (k j c d : ℕ) (ms : List Msg) → StartAt os k c → StartAt os j d → suc (length ms) ≤ d → suc (length (ms ++ opens_listed (drop j os))) ≡ a + length (opens_listed (drop k os)) → opens_count os k ≡ b + opens_count os j → Near a b false false
+module _ (os : List Opening) (a b : ℕ) (all : Some4 guest_opens os) (small : length os ≤ 16) where
+  created_listing : (k j c d : ℕ) (ms : List Msg) → StartAt os k c → StartAt os j d → suc (length ms) ≤ d → suc (length (ms ++ opens_listed (drop j os))) ≡ a + length (opens_listed (drop k os)) → lists_count os k ≡ b + lists_count os j → Near a b false false
   created_listing k j c d ms here there pieces e f =
       let ahead = length-append ms (opens_listed (drop j os)) in
       let up = steps guest_opens os j (suc k) (let less = there.less in omega (arith, less)) all in
       let back = opens_steps os k j (let less = here.less in omega (arith, less)) small in
-      let at : j ≡ k = omega (arith, e, f, ahead, pieces, up, back, here.listed, there.listed, there.whole) in
+      let at : j ≡ k = omega (arith, e, f, ahead, pieces, up, back, here.listed, there.listed, there.whole, there.asking, here.answering, there.answering, there.dial) in
       let one = ap (λ n. count guest_opens os (suc n)) at in
-      let two = ap (opens_count os) at in
+      let two = ap (lists_count os) at in
       neither a b (omega (arith, e, f, one, two, ahead, pieces, there.most, here.listed, there.listed), omega (arith, e, f, one, two, ahead, pieces, there.most, here.listed, there.listed), omega (arith, e, f, one, two, ahead, pieces, there.most, here.listed, there.listed))
 
-  created_listed : (k j c d : ℕ) → StartAt os k c → StartAt os j d → length (opens_listed (drop j os)) ≡ a + length (opens_listed (drop k os)) → opens_count os k ≡ b + length (answers_open (drop j os)) → Near a b false false
+  created_listed : (k j c d : ℕ) → StartAt os k c → StartAt os j d → length (opens_listed (drop j os)) ≡ a + length (opens_listed (drop k os)) → lists_count os k ≡ b + length (answers_open (drop j os)) → Near a b false false
   created_listed k j c d here there e f =
       let up = steps guest_opens os (suc j) (suc k) (let less = there.less in omega (arith, less)) all in
-      let back = opens_steps os k j (let less = here.less in omega (arith, less)) small in
-      let ahead = opens_steps os j k (let less = there.less in omega (arith, less)) small in
-      let at : j ≡ k = omega (arith, e, f, up, back, ahead, here.listed, there.listed, there.answered) in
+      let back = opens_steps os k (suc j) (let less = here.less in omega (arith, less)) small in
+      let at : j ≡ k = omega (arith, e, f, up, back, here.listed, there.listed, there.answered, there.created, here.answering) in
       let one = ap (λ n. count guest_opens os (suc n)) at in
-      let two = ap (opens_count os) at in
+      let two = ap (lists_count os) at in
       neither a b (omega (arith, e, f, one, two, here.listed, there.listed, there.answered), omega (arith, e, f, one, two, here.listed, there.listed, there.answered), omega (arith, e, f, one, two, here.listed, there.listed, there.answered))
 
   created_started : (said k c : ℕ) → StartAt os k c → 0 ≡ a + (length (opens_listed (drop k os)) + said) → Near a b false true
@@ -458,23 +518,26 @@ module _ (os : List Opening) (a b : ℕ) (all : Some3 guest_opens os) (small : l
   created_moving : (plan : BusPlan) (k j c : ℕ) → MovesAt plan os → StartAt os k c → LeftAt plan os j → 0 + length (drop j (guest_moves plan os)) ≡ a + (length (opens_listed (drop k os)) + length (guest_moves plan os)) → Near a b false false
   created_moving plan k j c has here there e = absurd (omega (arith, e, here.listed, there.asked, has.asked))
 
-  opened_listing : (k j c d : ℕ) (ms : List Msg) → StartAt os k c → StartAt os j d → suc (length ms) ≤ d → suc (length (ms ++ opens_listed (drop j os))) ≡ a + count guest_opens os (suc k) → length (answers_open (drop k os)) ≡ b + opens_count os j → Near a b false false
+  opened_listing : (k j c d : ℕ) (ms : List Msg) → StartAt os k c → StartAt os j d → suc (length ms) ≤ d → suc (length (ms ++ opens_listed (drop j os))) ≡ a + count guest_opens os (suc k) → length (answers_open (drop k os)) ≡ b + lists_count os j → Near a b false false
   opened_listing k j c d ms here there pieces e f =
       let ahead = length-append ms (opens_listed (drop j os)) in
       let up = steps guest_opens os j (suc k) (let less = there.less in omega (arith, less)) all in
       let back = opens_steps os k j (let less = here.less in omega (arith, less)) small in
-      let at : j ≡ suc k = omega (arith, e, f, ahead, pieces, up, back, here.answered, there.listed, there.whole) in
+      by_place j k
+      (λ at. let two = ap (lists_count os) at in absurd (omega (arith, f, two, here.answered)))
+      (λ off.
+      let at : j ≡ suc k = omega (arith, off, e, f, ahead, pieces, up, back, here.answered, here.answering, there.answering, there.dial, there.listed, there.whole, there.asking) in
       let one = ap (count guest_opens os) at in
       let two = ap (opens_count os) at in
-      neither a b (omega (arith, e, f, one, two, ahead, pieces, there.listed, there.whole, here.answered, here.created, here.few), omega (arith, e, f, one, two, ahead, pieces, there.listed, there.whole, here.answered, here.created, here.few), omega (arith, e, f, one, two, ahead, pieces, there.listed, there.whole, here.answered, here.created, here.few))
+      neither a b (omega (arith, e, f, one, two, ahead, pieces, there.listed, there.whole, there.asking, there.answering, there.dial, here.answered, here.created, here.few), omega (arith, e, f, one, two, ahead, pieces, there.listed, there.whole, there.asking, there.answering, there.dial, here.answered, here.created, here.few), omega (arith, e, f, one, two, ahead, pieces, there.listed, there.whole, there.asking, there.answering, there.dial, here.answered, here.created, here.few)))
 
   opened_listed : (k j c d : ℕ) → StartAt os k c → StartAt os j d → length (opens_listed (drop j os)) ≡ a + count guest_opens os (suc k) → length (answers_open (drop k os)) ≡ b + length (answers_open (drop j os)) → Near a b false false
   opened_listed k j c d here there e f =
       let up = steps guest_opens os j (suc k) (let less = there.less in omega (arith, less)) all in
       let back = opens_steps os k j (let less = here.less in omega (arith, less)) small in
-      let at : j ≡ k = omega (arith, e, f, up, back, here.answered, there.answered, there.listed, there.whole, there.least) in
+      let at : j ≡ k = omega (arith, e, f, up, back, here.answered, there.answered, here.answering, there.answering, there.dial, there.listed, there.whole, there.asking, there.least) in
       let one = ap (λ n. count guest_opens os (suc n)) at in
-      let two = ap (opens_count os) at in
+      let two = ap (lists_count os) at in
       neither a b (omega (arith, e, f, one, two, there.listed, here.answered, there.answered), omega (arith, e, f, one, two, there.listed, here.answered, there.answered), omega (arith, e, f, one, two, there.listed, here.answered, there.answered))
 
   opened_started : (plan : BusPlan) (k c : ℕ) → MovesAt plan os → StartAt os k c → 0 ≡ a + (count guest_opens os (suc k) + length (guest_moves plan os)) → length (answers_open (drop k os)) + length (host_moves plan os) ≡ b + 0 → Near a b false true
@@ -494,21 +557,23 @@ module _ (os : List Opening) (a b : ℕ) (all : Some3 guest_opens os) (small : l
       let whole : length (drop j (host_moves plan os)) ≡ length (host_moves plan os) = ap (λ n. length (drop n (host_moves plan os))) first in
       neither a b (omega (arith, e, there.asked, has.asked), omega (arith, f, none, whole, here.answered, here.created, here.few), omega (arith, f, none, whole, here.answered, here.created))
 
-  offered_listing : (k first j d : ℕ) (ms : List Msg) → OffersAt os k first → StartAt os j d → suc (length ms) ≤ d → suc (length (ms ++ opens_listed (drop j os))) ≡ a + length (start_to_say os (SubOffer k)) → length (start_to_hear os (SubOffer k)) ≡ b + opens_count os j → Near a b false false
+  offered_listing : (k first j d : ℕ) (ms : List Msg) → OffersAt os k first → StartAt os j d → suc (length ms) ≤ d → suc (length (ms ++ opens_listed (drop j os))) ≡ a + length (start_to_say os (SubOffer k)) → length (start_to_hear os (SubOffer k)) ≡ b + lists_count os j → Near a b false false
   offered_listing k first j d ms here there pieces e f =
       let ahead = length-append ms (opens_listed (drop j os)) in
       let up = steps guest_opens os j (suc first) (let less = there.less in omega (arith, less)) all in
       let back = opens_steps os first j (let less = here.less in omega (arith, less)) small in
-      let at : j ≡ suc first = omega (arith, e, f, ahead, pieces, up, back, here.says, here.hears, here.held, there.listed, there.whole) in
+      let at : j ≡ suc first = omega (arith, e, f, ahead, pieces, up, back, here.says, here.hears, here.held, there.listed, there.whole, there.asking, there.answering, there.dial) in
       let one = ap (count guest_opens os) at in
       let two = ap (opens_count os) at in
-      neither a b (omega (arith, e, f, one, two, ahead, pieces, there.listed, there.whole, here.says, here.hears, here.some, here.few), omega (arith, e, f, one, two, ahead, pieces, there.listed, there.whole, here.says, here.hears, here.some, here.few), omega (arith, e, f, one, two, ahead, pieces, there.listed, there.whole, here.says, here.hears, here.some, here.few))
+      neither a b (omega (arith, e, f, one, two, ahead, pieces, there.listed, there.whole, there.asking, there.answering, there.dial, here.says, here.hears, here.some, here.few), omega (arith, e, f, one, two, ahead, pieces, there.listed, there.whole, there.asking, there.answering, there.dial, here.says, here.hears, here.some, here.few), omega (arith, e, f, one, two, ahead, pieces, there.listed, there.whole, there.asking, there.answering, there.dial, here.says, here.hears, here.some, here.few))
 
   offered_listed : (k first j d : ℕ) → OffersAt os k first → StartAt os j d → length (opens_listed (drop j os)) ≡ a + length (start_to_say os (SubOffer k)) → length (start_to_hear os (SubOffer k)) ≡ b + length (answers_open (drop j os)) → Near a b false false
   offered_listed k first j d here there e f =
       let up = steps guest_opens os j (suc first) (let less = there.less in omega (arith, less)) all in
       let back = opens_steps os first j (let less = here.less in omega (arith, less)) small in
-      absurd (omega (arith, e, f, up, back, here.says, here.hears, here.held, there.listed, there.answered, there.whole, there.least))
+      by_place j first
+      (λ at. let mine = ap (dial_at os) at in let two = ap (opens_count os) at in absurd (omega (arith, f, mine, two, here.hears, here.held, there.answered, there.answering)))
+      (λ off. absurd (omega (arith, off, e, f, up, back, here.says, here.hears, here.held, there.listed, there.answered, there.answering, there.dial, there.whole, there.asking, there.least)))
 
   offered_started : (said k first : ℕ) → OffersAt os k first → 0 ≡ a + (length (start_to_say os (SubOffer k)) + said) → Near a b false true
   offered_started said k first here e =
@@ -520,7 +585,7 @@ module _ (os : List Opening) (a b : ℕ) (all : Some3 guest_opens os) (small : l
       let up = steps guest_opens os (length os) (suc first) (omega arith) all in
       absurd (omega (arith, e, up, here.says, here.less, there.asked, has.asked))
 
-  moved_listing : (plan : BusPlan) (k j d : ℕ) → LeftAt plan os k → StartAt os j d → 0 + length (drop k (host_moves plan os)) ≡ b + (opens_count os j + length (host_moves plan os)) → Near a b false false
+  moved_listing : (plan : BusPlan) (k j d : ℕ) → LeftAt plan os k → StartAt os j d → 0 + length (drop k (host_moves plan os)) ≡ b + (lists_count os j + length (host_moves plan os)) → Near a b false false
   moved_listing plan k j d here there f = absurd (omega (arith, f, here.answered, there.created))
 
   moved_listed : (plan : BusPlan) (k j d : ℕ) → LeftAt plan os k → StartAt os j d → 0 + length (drop k (host_moves plan os)) ≡ b + (length (answers_open (drop j os)) + length (host_moves plan os)) → Near a b false false
@@ -533,7 +598,7 @@ module _ (os : List Opening) (a b : ℕ) (all : Some3 guest_opens os) (small : l
   moved_started : (plan : BusPlan) (k : ℕ) → MovesAt plan os → LeftAt plan os k → 0 ≡ a + 0 → length (drop k (host_moves plan os)) + k ≡ length (moved plan os) → 0 + length (drop k (host_moves plan os)) ≡ b + 0 → Near a b false true
   moved_started plan k has here e all_answer f = host_over a b (omega (arith, e), omega (arith, f, all_answer, here.less), omega (arith, f, all_answer, has.few))
 
-  started_listing : (said j d : ℕ) → StartAt os j d → 0 ≡ b + (opens_count os j + said) → Near a b true false
+  started_listing : (said j d : ℕ) → StartAt os j d → 0 ≡ b + (lists_count os j + said) → Near a b true false
   started_listing said j d there f = absurd (omega (arith, f, there.created))
 
   started_listed : (said j d : ℕ) → StartAt os j d → 0 ≡ b + (length (answers_open (drop j os)) + said) → Near a b true false
@@ -541,6 +606,72 @@ module _ (os : List Opening) (a b : ℕ) (all : Some3 guest_opens os) (small : l
 
   started_moving : (plan : BusPlan) (j : ℕ) → MovesAt plan os → LeftAt plan os j → 0 + length (drop j (guest_moves plan os)) ≡ a + 0 → 0 ≡ b + (0 + length (drop j (host_moves plan os))) → Near a b true false
   started_moving plan j has there e f = guest_over a b (omega (arith, f), omega (arith, e, there.asked, there.less), omega (arith, e, there.asked, has.few))
+
+  -- a guest that asked for a service, whose channel isn't offered
+  dialed_connecting : (k j c d : ℕ) → StartAt os k c → StartAt os j d → dial_at os k ≡ 1 → count guest_opens os j ≡ a + length (lists_dialed (drop k os)) → opens_count os k ≡ b + opens_count os j → Near a b false false
+  dialed_connecting k j c d here there asked e f =
+      let up = steps guest_opens os j (suc k) (let less = there.less in omega (arith, less)) all in
+      let back = opens_steps os k j (let less = here.less in omega (arith, less)) small in
+      let at : j ≡ k = omega (arith, e, f, up, back, here.whole) in
+      let one = ap (count guest_opens os) at in
+      let two = ap (opens_count os) at in
+      neither a b (omega (arith, e, f, one, two, asked, here.asking), omega (arith, e, f, one, two, asked, here.asking), omega (arith, e, f, one, two, asked, here.asking))
+
+  dialed_listing : (k j c d : ℕ) (ms : List Msg) → StartAt os k c → StartAt os j d → dial_at os k ≡ 1 → suc (length ms) ≤ d → suc (length (ms ++ opens_listed (drop j os))) ≡ a + length (lists_dialed (drop k os)) → opens_count os k ≡ b + lists_count os j → Near a b false false
+  dialed_listing k j c d ms here there asked pieces e f =
+      let ahead = length-append ms (opens_listed (drop j os)) in
+      let up = steps guest_opens os j (suc k) (let less = there.less in omega (arith, less)) all in
+      let back = opens_steps os k j (let less = here.less in omega (arith, less)) small in
+      let at : j ≡ k = omega (arith, e, f, ahead, pieces, up, back, here.whole, there.listed, there.whole, there.asking, there.answering, there.dial) in
+      let one = ap (λ n. count guest_opens os (suc n)) at in
+      let two = ap (opens_count os) at in
+      let mine = ap (dial_at os) at in
+      neither a b (omega (arith, e, f, one, two, mine, asked, ahead, pieces, there.most, here.whole, here.least, there.listed, there.answering), omega (arith, e, f, one, two, mine, asked, ahead, pieces, there.most, here.whole, here.least, there.listed, there.answering), omega (arith, e, f, one, two, mine, asked, ahead, pieces, there.most, here.whole, here.least, there.listed, there.answering))
+
+  dialed_listed : (k j c d : ℕ) → StartAt os k c → StartAt os j d → length (opens_listed (drop j os)) ≡ a + length (lists_dialed (drop k os)) → opens_count os k ≡ b + length (answers_open (drop j os)) → Near a b false false
+  dialed_listed k j c d here there e f =
+      let up = steps guest_opens os (suc j) (suc k) (let less = there.less in omega (arith, less)) all in
+      let back = opens_steps os k (suc j) (let less = here.less in omega (arith, less)) small in
+      absurd (omega (arith, e, f, up, back, here.whole, here.least, there.listed, there.answered, there.created))
+
+  dialed_started : (said k c : ℕ) → StartAt os k c → 0 ≡ a + (length (lists_dialed (drop k os)) + said) → Near a b false true
+  dialed_started said k c here e = absurd (omega (arith, e, here.whole))
+
+  dialed_moving : (plan : BusPlan) (k j c : ℕ) → MovesAt plan os → StartAt os k c → LeftAt plan os j → 0 + length (drop j (guest_moves plan os)) ≡ a + (length (lists_dialed (drop k os)) + length (guest_moves plan os)) → Near a b false false
+  dialed_moving plan k j c has here there e = absurd (omega (arith, e, here.whole, there.asked, has.asked))
+
+  -- a host that waits for a guest to ask for a service
+  offered_connecting : (k first j d : ℕ) → OffersAt os k first → StartAt os j d → count guest_opens os j ≡ a + length (start_to_say os (SubOffer k)) → length (start_to_hear os (SubOffer k)) ≡ b + opens_count os j → Near a b false false
+  offered_connecting k first j d here there e f =
+      let up = steps guest_opens os j (suc first) (let less = there.less in omega (arith, less)) all in
+      let back = opens_steps os first j (let less = here.less in omega (arith, less)) small in
+      let at : j ≡ suc first = omega (arith, e, f, up, back, here.says, here.hears, here.held) in
+      let one = ap (count guest_opens os) at in
+      let two = ap (opens_count os) at in
+      neither a b (omega (arith, e, f, one, two, here.says, here.hears, here.some, here.few), omega (arith, e, f, one, two, here.says, here.hears, here.some, here.few), omega (arith, e, f, one, two, here.says, here.hears, here.some, here.few))
+
+  created_connecting : (k j c d : ℕ) → StartAt os k c → StartAt os j d → dial_at os j ≡ 1 → count guest_opens os j ≡ a + length (opens_listed (drop k os)) → lists_count os k ≡ b + opens_count os j → Near a b false false
+  created_connecting k j c d here there asked e f =
+      let up = steps guest_opens os j (suc k) (let less = there.less in omega (arith, less)) all in
+      let back = opens_steps os k j (let less = here.less in omega (arith, less)) small in
+      by_place j k
+      (λ at. let two = ap (opens_count os) at in let mine = ap (dial_at os) at in absurd (omega (arith, f, two, mine, asked, here.answering)))
+      (λ off. absurd (omega (arith, off, e, f, up, back, here.listed, here.answering)))
+
+  opened_connecting : (k j c d : ℕ) → StartAt os k c → StartAt os j d → count guest_opens os j ≡ a + count guest_opens os (suc k) → length (answers_open (drop k os)) ≡ b + opens_count os j → Near a b false false
+  opened_connecting k j c d here there e f =
+      let up = steps guest_opens os j (suc k) (let less = there.less in omega (arith, less)) all in
+      let back = opens_steps os k j (let less = here.less in omega (arith, less)) small in
+      let at : j ≡ suc k = omega (arith, e, f, up, back, here.answered, here.answering) in
+      let one = ap (count guest_opens os) at in
+      let two = ap (opens_count os) at in
+      neither a b (omega (arith, e, f, one, two, here.answered, here.created, here.few), omega (arith, e, f, one, two, here.answered, here.created, here.few), omega (arith, e, f, one, two, here.answered, here.created, here.few))
+
+  moved_connecting : (plan : BusPlan) (k j d : ℕ) → LeftAt plan os k → StartAt os j d → 0 + length (drop k (host_moves plan os)) ≡ b + (opens_count os j + length (host_moves plan os)) → Near a b false false
+  moved_connecting plan k j d here there f = absurd (omega (arith, f, here.answered, there.answering, there.created))
+
+  started_connecting : (said j d : ℕ) → StartAt os j d → 0 ≡ b + (opens_count os j + said) → Near a b true false
+  started_connecting said j d there f = absurd (omega (arith, f, there.answering, there.created))
 
 -- the end of a phase
 module _ (os : List Opening) (a b : ℕ) where
@@ -550,11 +681,11 @@ module _ (os : List Opening) (a b : ℕ) where
   abbrev hosts : ℕ → ℕ
   hosts place = count host_closes os place
 
-  guest_steps : (j k : ℕ) → j ≤ length os → guests j + (j - k) ≤ guests k + 3 * (k - j)
-  guest_steps j k few = steps guest_closes os j k few (closes_3 os)
+  guest_steps : (j k : ℕ) → j ≤ length os → guests j + (j - k) ≤ guests k + 4 * (k - j)
+  guest_steps j k few = steps guest_closes os j k few (closes_4 os)
 
-  host_steps : (j k : ℕ) → j ≤ length os → hosts j + (j - k) ≤ hosts k + 3 * (k - j)
-  host_steps j k few = steps host_closes os j k few (host_closes_3 os)
+  host_steps : (j k : ℕ) → j ≤ length os → hosts j + (j - k) ≤ hosts k + 4 * (k - j)
+  host_steps j k few = steps host_closes os j k few (host_closes_4 os)
 
   torn_close : (k j : ℕ) (o p : Opening) → EndAt os k o → EndAt os j p → o.rescinded ≡ false → guests j ≡ a + length (gives_sub (drop k os)) → hosts k ≡ b + hosts j → Near a b false false
   torn_close k j o p here there closed e f =
@@ -766,25 +897,35 @@ near plan part awaits version channels waits agreed lives assembly tried pieces 
 near plan part awaits version channels waits agreed lives assembly tried pieces a b planned (contacted v cs meet) (IsAnswering u others) e f = over_contact plan planned a b u others (cancel (host_contact_to_hear waits tried) (contact_to_say plan awaits) (guest_from plan 0) a e) (cancel (contact_to_hear plan awaits (length channels)) (host_contact_to_say plan waits tried) (host_from plan 0) b f)
 near plan part awaits version channels waits agreed lives assembly tried pieces a b planned (contacted v cs meet) (IsAccepting u ours) e f = over_request plan planned a b u (cancel (host_contact_to_hear waits tried) (contact_to_say plan awaits) (guest_from plan 0) a e) (cancel (contact_to_hear plan awaits (length channels)) (host_contact_to_say plan waits tried) (host_from plan 0) b f)
 near plan part awaits version channels waits agreed lives assembly tried pieces a b planned (contacted v cs meet) (IsContacted u ls ours) e f = over_over a b _ _ e f
-near plan part awaits version channels waits agreed lives assembly tried pieces a b planned (offers v cs phase k done first offered o left at is_first subs meet) (IsListing u ls phase2 j before p behind s m ms there ours list) e f = offered_listing (phase_of plan phase) a b (opens_3 (phase_of plan phase) (phase_fits plan phase planned at.in_plan)) (phase_small plan phase planned at.in_plan) k (length done) j _ ms (offers_at plan phase k done first offered o left planned at is_first subs) (start_at plan phase j before p behind planned there) (pieces_few before p s m ms list) (cancel (host_start_to_hear (phase_of plan phase) waits pieces) (start_to_say (phase_of plan phase) awaits) (guest_moves plan (phase_of plan phase) ++ (flat_map guest_closes (closing_of plan phase) ++ guest_from plan (suc phase))) a e) (cancel (start_to_hear (phase_of plan phase) awaits) (host_start_to_say (phase_of plan phase) waits) (host_moves plan (phase_of plan phase) ++ (flat_map host_closes (closing_of plan phase) ++ host_from plan (suc phase))) b f)
-near plan part awaits version channels waits agreed lives assembly tried pieces a b planned (offers v cs phase k done first offered o left at is_first subs meet) (IsListed u ls phase2 j before p behind there ours) e f = offered_listed (phase_of plan phase) a b (opens_3 (phase_of plan phase) (phase_fits plan phase planned at.in_plan)) (phase_small plan phase planned at.in_plan) k (length done) j _ (offers_at plan phase k done first offered o left planned at is_first subs) (start_at plan phase j before p behind planned there) (cancel (host_start_to_hear (phase_of plan phase) waits pieces) (start_to_say (phase_of plan phase) awaits) (guest_moves plan (phase_of plan phase) ++ (flat_map guest_closes (closing_of plan phase) ++ guest_from plan (suc phase))) a e) (cancel (start_to_hear (phase_of plan phase) awaits) (host_start_to_say (phase_of plan phase) waits) (host_moves plan (phase_of plan phase) ++ (flat_map host_closes (closing_of plan phase) ++ host_from plan (suc phase))) b f)
-near plan part awaits version channels waits agreed lives assembly tried pieces a b planned (offers v cs phase k done first offered o left at is_first subs meet) (IsMoving u ls phase2 j before p behind in_plan2 ms there ours) e f = offered_moving (phase_of plan phase) a b (opens_3 (phase_of plan phase) (phase_fits plan phase planned at.in_plan)) (phase_small plan phase planned at.in_plan) plan k (length done) j (moves_at plan phase planned at.in_plan) (offers_at plan phase k done first offered o left planned at is_first subs) (left_from plan (phase_of plan phase) before p behind j ms there) (cancel_both (host_start_to_hear (phase_of plan phase) waits pieces) (host_moves_to_hear plan (phase_of plan phase) waits) (start_to_say (phase_of plan phase) awaits) (moves_to_say plan (phase_of plan phase) awaits) (flat_map guest_closes (closing_of plan phase) ++ guest_from plan (suc phase)) a e)
-near plan part awaits version channels waits agreed lives assembly tried pieces a b planned (offers v cs phase k done first offered o left at is_first subs meet) (IsStarted u ls phase2 in_plan2 ours) e f = offered_started (phase_of plan phase) a b (opens_3 (phase_of plan phase) (phase_fits plan phase planned at.in_plan)) (phase_small plan phase planned at.in_plan) _ k (length done) (offers_at plan phase k done first offered o left planned at is_first subs) (cancel_both (host_start_to_hear (phase_of plan phase) waits pieces) (host_moves_to_hear plan (phase_of plan phase) waits) (start_to_say (phase_of plan phase) awaits) (moves_to_say plan (phase_of plan phase) awaits) (flat_map guest_closes (closing_of plan phase) ++ guest_from plan (suc phase)) a e)
-near plan part awaits version channels waits agreed lives assembly tried pieces a b planned (lists v cs phase k done o left at meet) (IsListing u ls phase2 j before p behind s m ms there ours list) e f = created_listing (phase_of plan phase) a b (opens_3 (phase_of plan phase) (phase_fits plan phase planned at.in_plan)) (phase_small plan phase planned at.in_plan) k j _ _ ms (start_at plan phase k done o left planned at) (start_at plan phase j before p behind planned there) (pieces_few before p s m ms list) (cancel (host_start_to_hear (phase_of plan phase) waits pieces) (start_to_say (phase_of plan phase) awaits) (guest_moves plan (phase_of plan phase) ++ (flat_map guest_closes (closing_of plan phase) ++ guest_from plan (suc phase))) a e) (cancel (start_to_hear (phase_of plan phase) awaits) (host_start_to_say (phase_of plan phase) waits) (host_moves plan (phase_of plan phase) ++ (flat_map host_closes (closing_of plan phase) ++ host_from plan (suc phase))) b f)
-near plan part awaits version channels waits agreed lives assembly tried pieces a b planned (lists v cs phase k done o left at meet) (IsListed u ls phase2 j before p behind there ours) e f = created_listed (phase_of plan phase) a b (opens_3 (phase_of plan phase) (phase_fits plan phase planned at.in_plan)) (phase_small plan phase planned at.in_plan) k j _ _ (start_at plan phase k done o left planned at) (start_at plan phase j before p behind planned there) (cancel (host_start_to_hear (phase_of plan phase) waits pieces) (start_to_say (phase_of plan phase) awaits) (guest_moves plan (phase_of plan phase) ++ (flat_map guest_closes (closing_of plan phase) ++ guest_from plan (suc phase))) a e) (cancel (start_to_hear (phase_of plan phase) awaits) (host_start_to_say (phase_of plan phase) waits) (host_moves plan (phase_of plan phase) ++ (flat_map host_closes (closing_of plan phase) ++ host_from plan (suc phase))) b f)
-near plan part awaits version channels waits agreed lives assembly tried pieces a b planned (lists v cs phase k done o left at meet) (IsMoving u ls phase2 j before p behind in_plan2 ms there ours) e f = created_moving (phase_of plan phase) a b (opens_3 (phase_of plan phase) (phase_fits plan phase planned at.in_plan)) (phase_small plan phase planned at.in_plan) plan k j _ (moves_at plan phase planned at.in_plan) (start_at plan phase k done o left planned at) (left_from plan (phase_of plan phase) before p behind j ms there) (cancel_both (host_start_to_hear (phase_of plan phase) waits pieces) (host_moves_to_hear plan (phase_of plan phase) waits) (start_to_say (phase_of plan phase) awaits) (moves_to_say plan (phase_of plan phase) awaits) (flat_map guest_closes (closing_of plan phase) ++ guest_from plan (suc phase)) a e)
-near plan part awaits version channels waits agreed lives assembly tried pieces a b planned (lists v cs phase k done o left at meet) (IsStarted u ls phase2 in_plan2 ours) e f = created_started (phase_of plan phase) a b (opens_3 (phase_of plan phase) (phase_fits plan phase planned at.in_plan)) (phase_small plan phase planned at.in_plan) _ k _ (start_at plan phase k done o left planned at) (cancel_both (host_start_to_hear (phase_of plan phase) waits pieces) (host_moves_to_hear plan (phase_of plan phase) waits) (start_to_say (phase_of plan phase) awaits) (moves_to_say plan (phase_of plan phase) awaits) (flat_map guest_closes (closing_of plan phase) ++ guest_from plan (suc phase)) a e)
-near plan part awaits version channels waits agreed lives assembly tried pieces a b planned (opens v cs phase k done o left at meet) (IsListing u ls phase2 j before p behind s m ms there ours list) e f = opened_listing (phase_of plan phase) a b (opens_3 (phase_of plan phase) (phase_fits plan phase planned at.in_plan)) (phase_small plan phase planned at.in_plan) k j _ _ ms (start_at plan phase k done o left planned at) (start_at plan phase j before p behind planned there) (pieces_few before p s m ms list) (cancel (host_start_to_hear (phase_of plan phase) waits pieces) (start_to_say (phase_of plan phase) awaits) (guest_moves plan (phase_of plan phase) ++ (flat_map guest_closes (closing_of plan phase) ++ guest_from plan (suc phase))) a e) (cancel (start_to_hear (phase_of plan phase) awaits) (host_start_to_say (phase_of plan phase) waits) (host_moves plan (phase_of plan phase) ++ (flat_map host_closes (closing_of plan phase) ++ host_from plan (suc phase))) b f)
-near plan part awaits version channels waits agreed lives assembly tried pieces a b planned (opens v cs phase k done o left at meet) (IsListed u ls phase2 j before p behind there ours) e f = opened_listed (phase_of plan phase) a b (opens_3 (phase_of plan phase) (phase_fits plan phase planned at.in_plan)) (phase_small plan phase planned at.in_plan) k j _ _ (start_at plan phase k done o left planned at) (start_at plan phase j before p behind planned there) (cancel (host_start_to_hear (phase_of plan phase) waits pieces) (start_to_say (phase_of plan phase) awaits) (guest_moves plan (phase_of plan phase) ++ (flat_map guest_closes (closing_of plan phase) ++ guest_from plan (suc phase))) a e) (cancel (start_to_hear (phase_of plan phase) awaits) (host_start_to_say (phase_of plan phase) waits) (host_moves plan (phase_of plan phase) ++ (flat_map host_closes (closing_of plan phase) ++ host_from plan (suc phase))) b f)
-near plan part awaits version channels waits agreed lives assembly tried pieces a b planned (opens v cs phase k done o left at meet) (IsMoving u ls phase2 j before p behind in_plan2 ms there ours) e f = opened_moving (phase_of plan phase) a b (opens_3 (phase_of plan phase) (phase_fits plan phase planned at.in_plan)) (phase_small plan phase planned at.in_plan) plan k j _ (moves_at plan phase planned at.in_plan) (start_at plan phase k done o left planned at) (left_from plan (phase_of plan phase) before p behind j ms there) (cancel_both (host_start_to_hear (phase_of plan phase) waits pieces) (host_moves_to_hear plan (phase_of plan phase) waits) (start_to_say (phase_of plan phase) awaits) (moves_to_say plan (phase_of plan phase) awaits) (flat_map guest_closes (closing_of plan phase) ++ guest_from plan (suc phase)) a e) (cancel_both (start_to_hear (phase_of plan phase) awaits) (moves_to_hear plan (phase_of plan phase) awaits) (host_start_to_say (phase_of plan phase) waits) (host_moves_to_say plan (phase_of plan phase) waits) (flat_map host_closes (closing_of plan phase) ++ host_from plan (suc phase)) b f)
-near plan part awaits version channels waits agreed lives assembly tried pieces a b planned (opens v cs phase k done o left at meet) (IsStarted u ls phase2 in_plan2 ours) e f = opened_started (phase_of plan phase) a b (opens_3 (phase_of plan phase) (phase_fits plan phase planned at.in_plan)) (phase_small plan phase planned at.in_plan) plan k _ (moves_at plan phase planned at.in_plan) (start_at plan phase k done o left planned at) (cancel_both (host_start_to_hear (phase_of plan phase) waits pieces) (host_moves_to_hear plan (phase_of plan phase) waits) (start_to_say (phase_of plan phase) awaits) (moves_to_say plan (phase_of plan phase) awaits) (flat_map guest_closes (closing_of plan phase) ++ guest_from plan (suc phase)) a e) (cancel_both (start_to_hear (phase_of plan phase) awaits) (moves_to_hear plan (phase_of plan phase) awaits) (host_start_to_say (phase_of plan phase) waits) (host_moves_to_say plan (phase_of plan phase) waits) (flat_map host_closes (closing_of plan phase) ++ host_from plan (suc phase)) b f)
-near plan part awaits version channels waits agreed lives assembly tried pieces a b planned (moves v cs phase k done o left in_plan is at answers meet) (IsListing u ls phase2 j before p behind s m ms there ours list) e f = moved_listing (phase_of plan phase) a b (opens_3 (phase_of plan phase) (phase_fits plan phase planned in_plan)) (phase_small plan phase planned in_plan) plan k j _ (left_from plan (phase_of plan phase) done o left k is at) (start_at plan phase j before p behind planned there) (cancel_both (start_to_hear (phase_of plan phase) awaits) (moves_to_hear plan (phase_of plan phase) awaits) (host_start_to_say (phase_of plan phase) waits) (host_moves_to_say plan (phase_of plan phase) waits) (flat_map host_closes (closing_of plan phase) ++ host_from plan (suc phase)) b f)
-near plan part awaits version channels waits agreed lives assembly tried pieces a b planned (moves v cs phase k done o left in_plan is at answers meet) (IsListed u ls phase2 j before p behind there ours) e f = moved_listed (phase_of plan phase) a b (opens_3 (phase_of plan phase) (phase_fits plan phase planned in_plan)) (phase_small plan phase planned in_plan) plan k j _ (left_from plan (phase_of plan phase) done o left k is at) (start_at plan phase j before p behind planned there) (cancel_both (start_to_hear (phase_of plan phase) awaits) (moves_to_hear plan (phase_of plan phase) awaits) (host_start_to_say (phase_of plan phase) waits) (host_moves_to_say plan (phase_of plan phase) waits) (flat_map host_closes (closing_of plan phase) ++ host_from plan (suc phase)) b f)
-near plan part awaits version channels waits agreed lives assembly tried pieces a b planned (moves v cs phase k done o left in_plan is at answers meet) (IsMoving u ls phase2 j before p behind in_plan2 ms there ours) e f = moved_moving (phase_of plan phase) a b (opens_3 (phase_of plan phase) (phase_fits plan phase planned in_plan)) (phase_small plan phase planned in_plan) plan k j (moves_at plan phase planned in_plan) (left_from plan (phase_of plan phase) done o left k is at) (left_from plan (phase_of plan phase) before p behind j ms there) (cancel_both (host_start_to_hear (phase_of plan phase) waits pieces) (host_moves_to_hear plan (phase_of plan phase) waits) (start_to_say (phase_of plan phase) awaits) (moves_to_say plan (phase_of plan phase) awaits) (flat_map guest_closes (closing_of plan phase) ++ guest_from plan (suc phase)) a e) (cancel_both (start_to_hear (phase_of plan phase) awaits) (moves_to_hear plan (phase_of plan phase) awaits) (host_start_to_say (phase_of plan phase) waits) (host_moves_to_say plan (phase_of plan phase) waits) (flat_map host_closes (closing_of plan phase) ++ host_from plan (suc phase)) b f)
-near plan part awaits version channels waits agreed lives assembly tried pieces a b planned (moves v cs phase k done o left in_plan is at answers meet) (IsStarted u ls phase2 in_plan2 ours) e f = moved_started (phase_of plan phase) a b (opens_3 (phase_of plan phase) (phase_fits plan phase planned in_plan)) (phase_small plan phase planned in_plan) plan k (moves_at plan phase planned in_plan) (left_from plan (phase_of plan phase) done o left k is at) (cancel_both (host_start_to_hear (phase_of plan phase) waits pieces) (host_moves_to_hear plan (phase_of plan phase) waits) (start_to_say (phase_of plan phase) awaits) (moves_to_say plan (phase_of plan phase) awaits) (flat_map guest_closes (closing_of plan phase) ++ guest_from plan (suc phase)) a e) (all_answered plan v (phase_of plan phase) k planned meet.agreed answers (left_from plan (phase_of plan phase) done o left k is at)) (cancel_both (start_to_hear (phase_of plan phase) awaits) (moves_to_hear plan (phase_of plan phase) awaits) (host_start_to_say (phase_of plan phase) waits) (host_moves_to_say plan (phase_of plan phase) waits) (flat_map host_closes (closing_of plan phase) ++ host_from plan (suc phase)) b f)
-near plan part awaits version channels waits agreed lives assembly tried pieces a b planned (started v cs phase in_plan meet) (IsListing u ls phase2 j before p behind s m ms there ours list) e f = started_listing (phase_of plan phase) a b (opens_3 (phase_of plan phase) (phase_fits plan phase planned in_plan)) (phase_small plan phase planned in_plan) _ j _ (start_at plan phase j before p behind planned there) (cancel_both (start_to_hear (phase_of plan phase) awaits) (moves_to_hear plan (phase_of plan phase) awaits) (host_start_to_say (phase_of plan phase) waits) (host_moves_to_say plan (phase_of plan phase) waits) (flat_map host_closes (closing_of plan phase) ++ host_from plan (suc phase)) b f)
-near plan part awaits version channels waits agreed lives assembly tried pieces a b planned (started v cs phase in_plan meet) (IsListed u ls phase2 j before p behind there ours) e f = started_listed (phase_of plan phase) a b (opens_3 (phase_of plan phase) (phase_fits plan phase planned in_plan)) (phase_small plan phase planned in_plan) _ j _ (start_at plan phase j before p behind planned there) (cancel_both (start_to_hear (phase_of plan phase) awaits) (moves_to_hear plan (phase_of plan phase) awaits) (host_start_to_say (phase_of plan phase) waits) (host_moves_to_say plan (phase_of plan phase) waits) (flat_map host_closes (closing_of plan phase) ++ host_from plan (suc phase)) b f)
-near plan part awaits version channels waits agreed lives assembly tried pieces a b planned (started v cs phase in_plan meet) (IsMoving u ls phase2 j before p behind in_plan2 ms there ours) e f = started_moving (phase_of plan phase) a b (opens_3 (phase_of plan phase) (phase_fits plan phase planned in_plan)) (phase_small plan phase planned in_plan) plan j (moves_at plan phase planned in_plan) (left_from plan (phase_of plan phase) before p behind j ms there) (cancel_both (host_start_to_hear (phase_of plan phase) waits pieces) (host_moves_to_hear plan (phase_of plan phase) waits) (start_to_say (phase_of plan phase) awaits) (moves_to_say plan (phase_of plan phase) awaits) (flat_map guest_closes (closing_of plan phase) ++ guest_from plan (suc phase)) a e) (cancel_both (start_to_hear (phase_of plan phase) awaits) (moves_to_hear plan (phase_of plan phase) awaits) (host_start_to_say (phase_of plan phase) waits) (host_moves_to_say plan (phase_of plan phase) waits) (flat_map host_closes (closing_of plan phase) ++ host_from plan (suc phase)) b f)
+near plan part awaits version channels waits agreed lives assembly tried pieces a b planned (offers v cs phase k done first offered o left at is_first subs meet) (IsConnecting u ls phase2 j before p behind there asked2 ours) e f = offered_connecting (phase_of plan phase) a b (opens_4 (phase_of plan phase) (phase_fits plan phase planned at.in_plan)) (phase_small plan phase planned at.in_plan) k (length done) j _ (offers_at plan phase k done first offered o left planned at is_first subs) (start_at plan phase j before p behind planned there) (cancel (host_start_to_hear (phase_of plan phase) waits pieces) (start_to_say (phase_of plan phase) awaits) (guest_moves plan (phase_of plan phase) ++ (flat_map guest_closes (closing_of plan phase) ++ guest_from plan (suc phase))) a e) (cancel (start_to_hear (phase_of plan phase) awaits) (host_start_to_say (phase_of plan phase) waits) (host_moves plan (phase_of plan phase) ++ (flat_map host_closes (closing_of plan phase) ++ host_from plan (suc phase))) b f)
+near plan part awaits version channels waits agreed lives assembly tried pieces a b planned (offers v cs phase k done first offered o left at is_first subs meet) (IsListing u ls phase2 j before p behind s m ms there ours list) e f = offered_listing (phase_of plan phase) a b (opens_4 (phase_of plan phase) (phase_fits plan phase planned at.in_plan)) (phase_small plan phase planned at.in_plan) k (length done) j _ ms (offers_at plan phase k done first offered o left planned at is_first subs) (start_at plan phase j before p behind planned there) (pieces_few before p s m ms list) (cancel (host_start_to_hear (phase_of plan phase) waits pieces) (start_to_say (phase_of plan phase) awaits) (guest_moves plan (phase_of plan phase) ++ (flat_map guest_closes (closing_of plan phase) ++ guest_from plan (suc phase))) a e) (cancel (start_to_hear (phase_of plan phase) awaits) (host_start_to_say (phase_of plan phase) waits) (host_moves plan (phase_of plan phase) ++ (flat_map host_closes (closing_of plan phase) ++ host_from plan (suc phase))) b f)
+near plan part awaits version channels waits agreed lives assembly tried pieces a b planned (offers v cs phase k done first offered o left at is_first subs meet) (IsListed u ls phase2 j before p behind there ours) e f = offered_listed (phase_of plan phase) a b (opens_4 (phase_of plan phase) (phase_fits plan phase planned at.in_plan)) (phase_small plan phase planned at.in_plan) k (length done) j _ (offers_at plan phase k done first offered o left planned at is_first subs) (start_at plan phase j before p behind planned there) (cancel (host_start_to_hear (phase_of plan phase) waits pieces) (start_to_say (phase_of plan phase) awaits) (guest_moves plan (phase_of plan phase) ++ (flat_map guest_closes (closing_of plan phase) ++ guest_from plan (suc phase))) a e) (cancel (start_to_hear (phase_of plan phase) awaits) (host_start_to_say (phase_of plan phase) waits) (host_moves plan (phase_of plan phase) ++ (flat_map host_closes (closing_of plan phase) ++ host_from plan (suc phase))) b f)
+near plan part awaits version channels waits agreed lives assembly tried pieces a b planned (offers v cs phase k done first offered o left at is_first subs meet) (IsMoving u ls phase2 j before p behind in_plan2 ms there ours) e f = offered_moving (phase_of plan phase) a b (opens_4 (phase_of plan phase) (phase_fits plan phase planned at.in_plan)) (phase_small plan phase planned at.in_plan) plan k (length done) j (moves_at plan phase planned at.in_plan) (offers_at plan phase k done first offered o left planned at is_first subs) (left_from plan (phase_of plan phase) before p behind j ms there) (cancel_both (host_start_to_hear (phase_of plan phase) waits pieces) (host_moves_to_hear plan (phase_of plan phase) waits) (start_to_say (phase_of plan phase) awaits) (moves_to_say plan (phase_of plan phase) awaits) (flat_map guest_closes (closing_of plan phase) ++ guest_from plan (suc phase)) a e)
+near plan part awaits version channels waits agreed lives assembly tried pieces a b planned (offers v cs phase k done first offered o left at is_first subs meet) (IsStarted u ls phase2 in_plan2 ours) e f = offered_started (phase_of plan phase) a b (opens_4 (phase_of plan phase) (phase_fits plan phase planned at.in_plan)) (phase_small plan phase planned at.in_plan) _ k (length done) (offers_at plan phase k done first offered o left planned at is_first subs) (cancel_both (host_start_to_hear (phase_of plan phase) waits pieces) (host_moves_to_hear plan (phase_of plan phase) waits) (start_to_say (phase_of plan phase) awaits) (moves_to_say plan (phase_of plan phase) awaits) (flat_map guest_closes (closing_of plan phase) ++ guest_from plan (suc phase)) a e)
+near plan part awaits version channels waits agreed lives assembly tried pieces a b planned (asks_for v cs phase k done o left at asked meet) (IsConnecting u ls phase2 j before p behind there asked2 ours) e f = dialed_connecting (phase_of plan phase) a b (opens_4 (phase_of plan phase) (phase_fits plan phase planned at.in_plan)) (phase_small plan phase planned at.in_plan) k j _ _ (start_at plan phase k done o left planned at) (start_at plan phase j before p behind planned there) (dial_is plan phase k done o left at asked) (cancel (host_start_to_hear (phase_of plan phase) waits pieces) (start_to_say (phase_of plan phase) awaits) (guest_moves plan (phase_of plan phase) ++ (flat_map guest_closes (closing_of plan phase) ++ guest_from plan (suc phase))) a e) (cancel (start_to_hear (phase_of plan phase) awaits) (host_start_to_say (phase_of plan phase) waits) (host_moves plan (phase_of plan phase) ++ (flat_map host_closes (closing_of plan phase) ++ host_from plan (suc phase))) b f)
+near plan part awaits version channels waits agreed lives assembly tried pieces a b planned (asks_for v cs phase k done o left at asked meet) (IsListing u ls phase2 j before p behind s m ms there ours list) e f = dialed_listing (phase_of plan phase) a b (opens_4 (phase_of plan phase) (phase_fits plan phase planned at.in_plan)) (phase_small plan phase planned at.in_plan) k j _ _ ms (start_at plan phase k done o left planned at) (start_at plan phase j before p behind planned there) (dial_is plan phase k done o left at asked) (pieces_few before p s m ms list) (cancel (host_start_to_hear (phase_of plan phase) waits pieces) (start_to_say (phase_of plan phase) awaits) (guest_moves plan (phase_of plan phase) ++ (flat_map guest_closes (closing_of plan phase) ++ guest_from plan (suc phase))) a e) (cancel (start_to_hear (phase_of plan phase) awaits) (host_start_to_say (phase_of plan phase) waits) (host_moves plan (phase_of plan phase) ++ (flat_map host_closes (closing_of plan phase) ++ host_from plan (suc phase))) b f)
+near plan part awaits version channels waits agreed lives assembly tried pieces a b planned (asks_for v cs phase k done o left at asked meet) (IsListed u ls phase2 j before p behind there ours) e f = dialed_listed (phase_of plan phase) a b (opens_4 (phase_of plan phase) (phase_fits plan phase planned at.in_plan)) (phase_small plan phase planned at.in_plan) k j _ _ (start_at plan phase k done o left planned at) (start_at plan phase j before p behind planned there) (cancel (host_start_to_hear (phase_of plan phase) waits pieces) (start_to_say (phase_of plan phase) awaits) (guest_moves plan (phase_of plan phase) ++ (flat_map guest_closes (closing_of plan phase) ++ guest_from plan (suc phase))) a e) (cancel (start_to_hear (phase_of plan phase) awaits) (host_start_to_say (phase_of plan phase) waits) (host_moves plan (phase_of plan phase) ++ (flat_map host_closes (closing_of plan phase) ++ host_from plan (suc phase))) b f)
+near plan part awaits version channels waits agreed lives assembly tried pieces a b planned (asks_for v cs phase k done o left at asked meet) (IsMoving u ls phase2 j before p behind in_plan2 ms there ours) e f = dialed_moving (phase_of plan phase) a b (opens_4 (phase_of plan phase) (phase_fits plan phase planned at.in_plan)) (phase_small plan phase planned at.in_plan) plan k j _ (moves_at plan phase planned at.in_plan) (start_at plan phase k done o left planned at) (left_from plan (phase_of plan phase) before p behind j ms there) (cancel_both (host_start_to_hear (phase_of plan phase) waits pieces) (host_moves_to_hear plan (phase_of plan phase) waits) (start_to_say (phase_of plan phase) awaits) (moves_to_say plan (phase_of plan phase) awaits) (flat_map guest_closes (closing_of plan phase) ++ guest_from plan (suc phase)) a e)
+near plan part awaits version channels waits agreed lives assembly tried pieces a b planned (asks_for v cs phase k done o left at asked meet) (IsStarted u ls phase2 in_plan2 ours) e f = dialed_started (phase_of plan phase) a b (opens_4 (phase_of plan phase) (phase_fits plan phase planned at.in_plan)) (phase_small plan phase planned at.in_plan) _ k _ (start_at plan phase k done o left planned at) (cancel_both (host_start_to_hear (phase_of plan phase) waits pieces) (host_moves_to_hear plan (phase_of plan phase) waits) (start_to_say (phase_of plan phase) awaits) (moves_to_say plan (phase_of plan phase) awaits) (flat_map guest_closes (closing_of plan phase) ++ guest_from plan (suc phase)) a e)
+near plan part awaits version channels waits agreed lives assembly tried pieces a b planned (lists v cs phase k done o left at meet) (IsConnecting u ls phase2 j before p behind there asked2 ours) e f = created_connecting (phase_of plan phase) a b (opens_4 (phase_of plan phase) (phase_fits plan phase planned at.in_plan)) (phase_small plan phase planned at.in_plan) k j _ _ (start_at plan phase k done o left planned at) (start_at plan phase j before p behind planned there) (dial_is plan phase j before p behind there asked2) (cancel (host_start_to_hear (phase_of plan phase) waits pieces) (start_to_say (phase_of plan phase) awaits) (guest_moves plan (phase_of plan phase) ++ (flat_map guest_closes (closing_of plan phase) ++ guest_from plan (suc phase))) a e) (cancel (start_to_hear (phase_of plan phase) awaits) (host_start_to_say (phase_of plan phase) waits) (host_moves plan (phase_of plan phase) ++ (flat_map host_closes (closing_of plan phase) ++ host_from plan (suc phase))) b f)
+near plan part awaits version channels waits agreed lives assembly tried pieces a b planned (lists v cs phase k done o left at meet) (IsListing u ls phase2 j before p behind s m ms there ours list) e f = created_listing (phase_of plan phase) a b (opens_4 (phase_of plan phase) (phase_fits plan phase planned at.in_plan)) (phase_small plan phase planned at.in_plan) k j _ _ ms (start_at plan phase k done o left planned at) (start_at plan phase j before p behind planned there) (pieces_few before p s m ms list) (cancel (host_start_to_hear (phase_of plan phase) waits pieces) (start_to_say (phase_of plan phase) awaits) (guest_moves plan (phase_of plan phase) ++ (flat_map guest_closes (closing_of plan phase) ++ guest_from plan (suc phase))) a e) (cancel (start_to_hear (phase_of plan phase) awaits) (host_start_to_say (phase_of plan phase) waits) (host_moves plan (phase_of plan phase) ++ (flat_map host_closes (closing_of plan phase) ++ host_from plan (suc phase))) b f)
+near plan part awaits version channels waits agreed lives assembly tried pieces a b planned (lists v cs phase k done o left at meet) (IsListed u ls phase2 j before p behind there ours) e f = created_listed (phase_of plan phase) a b (opens_4 (phase_of plan phase) (phase_fits plan phase planned at.in_plan)) (phase_small plan phase planned at.in_plan) k j _ _ (start_at plan phase k done o left planned at) (start_at plan phase j before p behind planned there) (cancel (host_start_to_hear (phase_of plan phase) waits pieces) (start_to_say (phase_of plan phase) awaits) (guest_moves plan (phase_of plan phase) ++ (flat_map guest_closes (closing_of plan phase) ++ guest_from plan (suc phase))) a e) (cancel (start_to_hear (phase_of plan phase) awaits) (host_start_to_say (phase_of plan phase) waits) (host_moves plan (phase_of plan phase) ++ (flat_map host_closes (closing_of plan phase) ++ host_from plan (suc phase))) b f)
+near plan part awaits version channels waits agreed lives assembly tried pieces a b planned (lists v cs phase k done o left at meet) (IsMoving u ls phase2 j before p behind in_plan2 ms there ours) e f = created_moving (phase_of plan phase) a b (opens_4 (phase_of plan phase) (phase_fits plan phase planned at.in_plan)) (phase_small plan phase planned at.in_plan) plan k j _ (moves_at plan phase planned at.in_plan) (start_at plan phase k done o left planned at) (left_from plan (phase_of plan phase) before p behind j ms there) (cancel_both (host_start_to_hear (phase_of plan phase) waits pieces) (host_moves_to_hear plan (phase_of plan phase) waits) (start_to_say (phase_of plan phase) awaits) (moves_to_say plan (phase_of plan phase) awaits) (flat_map guest_closes (closing_of plan phase) ++ guest_from plan (suc phase)) a e)
+near plan part awaits version channels waits agreed lives assembly tried pieces a b planned (lists v cs phase k done o left at meet) (IsStarted u ls phase2 in_plan2 ours) e f = created_started (phase_of plan phase) a b (opens_4 (phase_of plan phase) (phase_fits plan phase planned at.in_plan)) (phase_small plan phase planned at.in_plan) _ k _ (start_at plan phase k done o left planned at) (cancel_both (host_start_to_hear (phase_of plan phase) waits pieces) (host_moves_to_hear plan (phase_of plan phase) waits) (start_to_say (phase_of plan phase) awaits) (moves_to_say plan (phase_of plan phase) awaits) (flat_map guest_closes (closing_of plan phase) ++ guest_from plan (suc phase)) a e)
+near plan part awaits version channels waits agreed lives assembly tried pieces a b planned (opens v cs phase k done o left at meet) (IsConnecting u ls phase2 j before p behind there asked2 ours) e f = opened_connecting (phase_of plan phase) a b (opens_4 (phase_of plan phase) (phase_fits plan phase planned at.in_plan)) (phase_small plan phase planned at.in_plan) k j _ _ (start_at plan phase k done o left planned at) (start_at plan phase j before p behind planned there) (cancel (host_start_to_hear (phase_of plan phase) waits pieces) (start_to_say (phase_of plan phase) awaits) (guest_moves plan (phase_of plan phase) ++ (flat_map guest_closes (closing_of plan phase) ++ guest_from plan (suc phase))) a e) (cancel (start_to_hear (phase_of plan phase) awaits) (host_start_to_say (phase_of plan phase) waits) (host_moves plan (phase_of plan phase) ++ (flat_map host_closes (closing_of plan phase) ++ host_from plan (suc phase))) b f)
+near plan part awaits version channels waits agreed lives assembly tried pieces a b planned (opens v cs phase k done o left at meet) (IsListing u ls phase2 j before p behind s m ms there ours list) e f = opened_listing (phase_of plan phase) a b (opens_4 (phase_of plan phase) (phase_fits plan phase planned at.in_plan)) (phase_small plan phase planned at.in_plan) k j _ _ ms (start_at plan phase k done o left planned at) (start_at plan phase j before p behind planned there) (pieces_few before p s m ms list) (cancel (host_start_to_hear (phase_of plan phase) waits pieces) (start_to_say (phase_of plan phase) awaits) (guest_moves plan (phase_of plan phase) ++ (flat_map guest_closes (closing_of plan phase) ++ guest_from plan (suc phase))) a e) (cancel (start_to_hear (phase_of plan phase) awaits) (host_start_to_say (phase_of plan phase) waits) (host_moves plan (phase_of plan phase) ++ (flat_map host_closes (closing_of plan phase) ++ host_from plan (suc phase))) b f)
+near plan part awaits version channels waits agreed lives assembly tried pieces a b planned (opens v cs phase k done o left at meet) (IsListed u ls phase2 j before p behind there ours) e f = opened_listed (phase_of plan phase) a b (opens_4 (phase_of plan phase) (phase_fits plan phase planned at.in_plan)) (phase_small plan phase planned at.in_plan) k j _ _ (start_at plan phase k done o left planned at) (start_at plan phase j before p behind planned there) (cancel (host_start_to_hear (phase_of plan phase) waits pieces) (start_to_say (phase_of plan phase) awaits) (guest_moves plan (phase_of plan phase) ++ (flat_map guest_closes (closing_of plan phase) ++ guest_from plan (suc phase))) a e) (cancel (start_to_hear (phase_of plan phase) awaits) (host_start_to_say (phase_of plan phase) waits) (host_moves plan (phase_of plan phase) ++ (flat_map host_closes (closing_of plan phase) ++ host_from plan (suc phase))) b f)
+near plan part awaits version channels waits agreed lives assembly tried pieces a b planned (opens v cs phase k done o left at meet) (IsMoving u ls phase2 j before p behind in_plan2 ms there ours) e f = opened_moving (phase_of plan phase) a b (opens_4 (phase_of plan phase) (phase_fits plan phase planned at.in_plan)) (phase_small plan phase planned at.in_plan) plan k j _ (moves_at plan phase planned at.in_plan) (start_at plan phase k done o left planned at) (left_from plan (phase_of plan phase) before p behind j ms there) (cancel_both (host_start_to_hear (phase_of plan phase) waits pieces) (host_moves_to_hear plan (phase_of plan phase) waits) (start_to_say (phase_of plan phase) awaits) (moves_to_say plan (phase_of plan phase) awaits) (flat_map guest_closes (closing_of plan phase) ++ guest_from plan (suc phase)) a e) (cancel_both (start_to_hear (phase_of plan phase) awaits) (moves_to_hear plan (phase_of plan phase) awaits) (host_start_to_say (phase_of plan phase) waits) (host_moves_to_say plan (phase_of plan phase) waits) (flat_map host_closes (closing_of plan phase) ++ host_from plan (suc phase)) b f)
+near plan part awaits version channels waits agreed lives assembly tried pieces a b planned (opens v cs phase k done o left at meet) (IsStarted u ls phase2 in_plan2 ours) e f = opened_started (phase_of plan phase) a b (opens_4 (phase_of plan phase) (phase_fits plan phase planned at.in_plan)) (phase_small plan phase planned at.in_plan) plan k _ (moves_at plan phase planned at.in_plan) (start_at plan phase k done o left planned at) (cancel_both (host_start_to_hear (phase_of plan phase) waits pieces) (host_moves_to_hear plan (phase_of plan phase) waits) (start_to_say (phase_of plan phase) awaits) (moves_to_say plan (phase_of plan phase) awaits) (flat_map guest_closes (closing_of plan phase) ++ guest_from plan (suc phase)) a e) (cancel_both (start_to_hear (phase_of plan phase) awaits) (moves_to_hear plan (phase_of plan phase) awaits) (host_start_to_say (phase_of plan phase) waits) (host_moves_to_say plan (phase_of plan phase) waits) (flat_map host_closes (closing_of plan phase) ++ host_from plan (suc phase)) b f)
+near plan part awaits version channels waits agreed lives assembly tried pieces a b planned (moves v cs phase k done o left in_plan is at answers meet) (IsConnecting u ls phase2 j before p behind there asked2 ours) e f = moved_connecting (phase_of plan phase) a b (opens_4 (phase_of plan phase) (phase_fits plan phase planned in_plan)) (phase_small plan phase planned in_plan) plan k j _ (left_from plan (phase_of plan phase) done o left k is at) (start_at plan phase j before p behind planned there) (cancel_both (start_to_hear (phase_of plan phase) awaits) (moves_to_hear plan (phase_of plan phase) awaits) (host_start_to_say (phase_of plan phase) waits) (host_moves_to_say plan (phase_of plan phase) waits) (flat_map host_closes (closing_of plan phase) ++ host_from plan (suc phase)) b f)
+near plan part awaits version channels waits agreed lives assembly tried pieces a b planned (moves v cs phase k done o left in_plan is at answers meet) (IsListing u ls phase2 j before p behind s m ms there ours list) e f = moved_listing (phase_of plan phase) a b (opens_4 (phase_of plan phase) (phase_fits plan phase planned in_plan)) (phase_small plan phase planned in_plan) plan k j _ (left_from plan (phase_of plan phase) done o left k is at) (start_at plan phase j before p behind planned there) (cancel_both (start_to_hear (phase_of plan phase) awaits) (moves_to_hear plan (phase_of plan phase) awaits) (host_start_to_say (phase_of plan phase) waits) (host_moves_to_say plan (phase_of plan phase) waits) (flat_map host_closes (closing_of plan phase) ++ host_from plan (suc phase)) b f)
+near plan part awaits version channels waits agreed lives assembly tried pieces a b planned (moves v cs phase k done o left in_plan is at answers meet) (IsListed u ls phase2 j before p behind there ours) e f = moved_listed (phase_of plan phase) a b (opens_4 (phase_of plan phase) (phase_fits plan phase planned in_plan)) (phase_small plan phase planned in_plan) plan k j _ (left_from plan (phase_of plan phase) done o left k is at) (start_at plan phase j before p behind planned there) (cancel_both (start_to_hear (phase_of plan phase) awaits) (moves_to_hear plan (phase_of plan phase) awaits) (host_start_to_say (phase_of plan phase) waits) (host_moves_to_say plan (phase_of plan phase) waits) (flat_map host_closes (closing_of plan phase) ++ host_from plan (suc phase)) b f)
+near plan part awaits version channels waits agreed lives assembly tried pieces a b planned (moves v cs phase k done o left in_plan is at answers meet) (IsMoving u ls phase2 j before p behind in_plan2 ms there ours) e f = moved_moving (phase_of plan phase) a b (opens_4 (phase_of plan phase) (phase_fits plan phase planned in_plan)) (phase_small plan phase planned in_plan) plan k j (moves_at plan phase planned in_plan) (left_from plan (phase_of plan phase) done o left k is at) (left_from plan (phase_of plan phase) before p behind j ms there) (cancel_both (host_start_to_hear (phase_of plan phase) waits pieces) (host_moves_to_hear plan (phase_of plan phase) waits) (start_to_say (phase_of plan phase) awaits) (moves_to_say plan (phase_of plan phase) awaits) (flat_map guest_closes (closing_of plan phase) ++ guest_from plan (suc phase)) a e) (cancel_both (start_to_hear (phase_of plan phase) awaits) (moves_to_hear plan (phase_of plan phase) awaits) (host_start_to_say (phase_of plan phase) waits) (host_moves_to_say plan (phase_of plan phase) waits) (flat_map host_closes (closing_of plan phase) ++ host_from plan (suc phase)) b f)
+near plan part awaits version channels waits agreed lives assembly tried pieces a b planned (moves v cs phase k done o left in_plan is at answers meet) (IsStarted u ls phase2 in_plan2 ours) e f = moved_started (phase_of plan phase) a b (opens_4 (phase_of plan phase) (phase_fits plan phase planned in_plan)) (phase_small plan phase planned in_plan) plan k (moves_at plan phase planned in_plan) (left_from plan (phase_of plan phase) done o left k is at) (cancel_both (host_start_to_hear (phase_of plan phase) waits pieces) (host_moves_to_hear plan (phase_of plan phase) waits) (start_to_say (phase_of plan phase) awaits) (moves_to_say plan (phase_of plan phase) awaits) (flat_map guest_closes (closing_of plan phase) ++ guest_from plan (suc phase)) a e) (all_answered plan v (phase_of plan phase) k planned meet.agreed answers (left_from plan (phase_of plan phase) done o left k is at)) (cancel_both (start_to_hear (phase_of plan phase) awaits) (moves_to_hear plan (phase_of plan phase) awaits) (host_start_to_say (phase_of plan phase) waits) (host_moves_to_say plan (phase_of plan phase) waits) (flat_map host_closes (closing_of plan phase) ++ host_from plan (suc phase)) b f)
+near plan part awaits version channels waits agreed lives assembly tried pieces a b planned (started v cs phase in_plan meet) (IsConnecting u ls phase2 j before p behind there asked2 ours) e f = started_connecting (phase_of plan phase) a b (opens_4 (phase_of plan phase) (phase_fits plan phase planned in_plan)) (phase_small plan phase planned in_plan) _ j _ (start_at plan phase j before p behind planned there) (cancel_both (start_to_hear (phase_of plan phase) awaits) (moves_to_hear plan (phase_of plan phase) awaits) (host_start_to_say (phase_of plan phase) waits) (host_moves_to_say plan (phase_of plan phase) waits) (flat_map host_closes (closing_of plan phase) ++ host_from plan (suc phase)) b f)
+near plan part awaits version channels waits agreed lives assembly tried pieces a b planned (started v cs phase in_plan meet) (IsListing u ls phase2 j before p behind s m ms there ours list) e f = started_listing (phase_of plan phase) a b (opens_4 (phase_of plan phase) (phase_fits plan phase planned in_plan)) (phase_small plan phase planned in_plan) _ j _ (start_at plan phase j before p behind planned there) (cancel_both (start_to_hear (phase_of plan phase) awaits) (moves_to_hear plan (phase_of plan phase) awaits) (host_start_to_say (phase_of plan phase) waits) (host_moves_to_say plan (phase_of plan phase) waits) (flat_map host_closes (closing_of plan phase) ++ host_from plan (suc phase)) b f)
+near plan part awaits version channels waits agreed lives assembly tried pieces a b planned (started v cs phase in_plan meet) (IsListed u ls phase2 j before p behind there ours) e f = started_listed (phase_of plan phase) a b (opens_4 (phase_of plan phase) (phase_fits plan phase planned in_plan)) (phase_small plan phase planned in_plan) _ j _ (start_at plan phase j before p behind planned there) (cancel_both (start_to_hear (phase_of plan phase) awaits) (moves_to_hear plan (phase_of plan phase) awaits) (host_start_to_say (phase_of plan phase) waits) (host_moves_to_say plan (phase_of plan phase) waits) (flat_map host_closes (closing_of plan phase) ++ host_from plan (suc phase)) b f)
+near plan part awaits version channels waits agreed lives assembly tried pieces a b planned (started v cs phase in_plan meet) (IsMoving u ls phase2 j before p behind in_plan2 ms there ours) e f = started_moving (phase_of plan phase) a b (opens_4 (phase_of plan phase) (phase_fits plan phase planned in_plan)) (phase_small plan phase planned in_plan) plan j (moves_at plan phase planned in_plan) (left_from plan (phase_of plan phase) before p behind j ms there) (cancel_both (host_start_to_hear (phase_of plan phase) waits pieces) (host_moves_to_hear plan (phase_of plan phase) waits) (start_to_say (phase_of plan phase) awaits) (moves_to_say plan (phase_of plan phase) awaits) (flat_map guest_closes (closing_of plan phase) ++ guest_from plan (suc phase)) a e) (cancel_both (start_to_hear (phase_of plan phase) awaits) (moves_to_hear plan (phase_of plan phase) awaits) (host_start_to_say (phase_of plan phase) waits) (host_moves_to_say plan (phase_of plan phase) waits) (flat_map host_closes (closing_of plan phase) ++ host_from plan (suc phase)) b f)
 near plan part awaits version channels waits agreed lives assembly tried pieces a b planned (started v cs phase in_plan meet) (IsStarted u ls phase2 in_plan2 ours) e f = over_over a b _ _ e f
 near plan part awaits version channels waits agreed lives assembly tried pieces a b planned (closes v cs phase k done o left at closed meet) (IsClosing u ls phase2 j before p behind there other ours) e f = torn_close (closing_of plan phase) a b k j o p (end_at plan phase k done o left at) (end_at plan phase j before p behind there) closed (cancel (host_end_to_hear (closing_of plan phase) waits) (end_to_say (closing_of plan phase) awaits) (guest_from plan (suc phase)) a e) (cancel (end_to_hear (closing_of plan phase) awaits) (host_end_to_say (closing_of plan phase) waits) (host_from plan (suc phase)) b f)
 near plan part awaits version channels waits agreed lives assembly tried pieces a b planned (closes v cs phase k done o left at closed meet) (IsTearing u ls phase2 j before p behind there other ours) e f = torn_teardown (closing_of plan phase) a b k j o p (end_at plan phase k done o left at) (end_at plan phase j before p behind there) closed other (cancel (host_end_to_hear (closing_of plan phase) waits) (end_to_say (closing_of plan phase) awaits) (guest_from plan (suc phase)) a e) (cancel (end_to_hear (closing_of plan phase) awaits) (host_end_to_say (closing_of plan phase) waits) (host_from plan (suc phase)) b f)

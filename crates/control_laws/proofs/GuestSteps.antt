@@ -1,15 +1,15 @@
 -- A guest takes the next message that its host says.
-use Rattle.std.proofs.Common.{◌≡◌, ◌≢◌, ◌∙◌, ℕ, zero, suc, ◌+◌, ◌-◌, ◌<◌, ◌≤◌, ◌==◌, ◌&&◌, ◌||◌, not, true, false, Bool, nat_le, cond, if◌then◌else◌, List, [], ◌∷◌, ◌++◌, length, map, drop, replicate, slice_get, slice_set, Option, Some, None, Ok, refl, sym, ap, subst, append_assoc, length-append, arith}
+use Rattle.std.proofs.Common.{◌≡◌, ◌≢◌, ◌∙◌, ℕ, zero, suc, ◌+◌, ◌-◌, ◌<◌, ◌≤◌, ◌==◌, ◌&&◌, ◌||◌, not, true, false, Bool, nat_le, cond, if◌then◌else◌, List, [], ◌∷◌, ◌++◌, length, map, drop, replicate, slice_get, slice_set, Option, Some, None, is_some, Ok, All, get_or, ◌^◌, refl, sym, ap, subst, append_assoc, length-append, arith}
 use Rattle.std.specs.Option.{option_to_list}
 use Rattle.std.specs.List.{AllByRecursion, flat_map, position_from}
 use Rattle.std.proofs.lemmas.Bool.{eq-eqb}
 use Rattle.std.proofs.lemmas.Bool.Decides.{nat_tests}
 use Rattle.std.proofs.lemmas.List.Concat.{flat_map-cons}
 use Rattle.std.proofs.lemmas.List.{append-nil, length-replicate}
-use Rattle.std.proofs.lemmas.List.Elements.{filter-append}
+use Rattle.std.proofs.lemmas.List.Elements.{All-get_or}
 use Rattle.contact.specs.declared.version.Version.{Version}
 use Rattle.contact.specs.declared.kind.Kind.{Kind}
-use Rattle.contact.specs.declared.kind.Kind.TheVariants.{Disk}
+use Rattle.contact.specs.declared.kind.Kind.TheVariants.{Disk, Sock}
 use Rattle.contact.specs.Versions.{versions_tried, answers_modify}
 use Rattle.contact.specs.declared.part.Part.{Part}
 use Rattle.contact.specs.declared.part.Part.TheVariants.{Contact, PhaseStart, PhaseEnd, Unload}
@@ -25,23 +25,24 @@ use Rattle.control_model.specs.declared.change.Change.{Change}
 use Rattle.control_model.specs.declared.change.Change.TheVariants.{Offered, Now}
 use Rattle.control_model.specs.declared.burst.Burst.TheVariants.{One}
 use Rattle.control_model.specs.declared.guest_wait.GuestWait.{GuestWait}
-use Rattle.control_model.specs.declared.guest_wait.GuestWait.TheVariants.{Nothing, Response, Offers, SubOffer, Created, Opened as AwaitsOpened, Modified, Torn, Rescinded, Unloaded}
+use Rattle.control_model.specs.declared.guest_wait.GuestWait.TheVariants.{Nothing, Response, Offers, SubOffer, ServiceOffer, Created, Opened as AwaitsOpened, Modified, Torn, Rescinded, Unloaded}
 use Rattle.control_model.specs.declared.guest_turn.GuestTurn.{GuestTurn}
-use Rattle.control_model.specs.Plan.{BusPlan, is_sub, is_of_sub, first_subs, subs_next, subs_in, opening_at, closing_at, IsPlan, phase_of, closing_of}
+use Rattle.control_model.specs.Plan.{BusPlan, is_sub, is_of_sub, first_subs, subs_next, opening_at, closing_at, IsPlan, IsPort, HasPort, phase_of, closing_of}
 use Rattle.control_model.specs.Channels.{by_relid, lived, changed, is_handle, place_of_list}
-use Rattle.control_model.specs.Messages.{propose, respond, request, delivered, created, open_on, opened, modified, offer_sub, torndown, rescind, release, farewell_taken, Sends}
-use Rattle.control_model.specs.Guest.{GuestSeen, idle, offered_channel, proposal, proposes, answered, device_offered, is_sub_offer, goes_behind, sub_offered, on_offer, opens, created_for, on_created, opens_next, opened_for, on_result, is_modifying, in_state, then_in, waits_answer, on_modified, torn_at, torn_then, torn_for, ended_for, on_torndown, on_rescind, lists_next, closes_next, guest_hears, waits_for_nothing}
-use Rattle.control_model.specs.Said.{agreed, answer_to, moved, guest_moves, host_moves, guest_opens, host_opens_all, guest_closes, host_closes, only_sub, ends_given_back}
-use Rattle.control_model.specs.GuestAt.{guest_from, host_from, opens_listed, answers_open, from_first_sub, gives_sub, gives_one, takes_one, end_to_say, end_to_hear, moves_to_say, start_to_say, to_say, to_hear, GuestStands}
-use Rattle.control_model.specs.GuestAt.GuestStands.{fresh, proposes as IsProposing, asks, contacted, offers as IsOffering, lists, opens as IsOpened, moves, started, closes as IsClosing, gives_back, gives_sub_back, ended, leaves, is_over}
+use Rattle.control_model.specs.Messages.{propose, respond, request, delivered, created, open_on, opened, modified, offer_sub, offer_service, pages_from, torndown, rescind, release, farewell_taken, Sends}
+use Rattle.control_model.specs.Guest.{GuestSeen, idle, is_service, is_service_offer, service_offered, lists as lists_turn, offered_channel, proposal, proposes, answered, device_offered, is_sub_offer, goes_behind, sub_offered, on_offer, opens, created_for, on_created, opens_next, opened_for, on_result, is_modifying, in_state, then_in, waits_answer, on_modified, torn_at, torn_then, torn_for, ended_for, on_torndown, on_rescind, lists_next, closes_next, guest_hears, waits_for_nothing}
+use Rattle.control_model.specs.Said.{agreed, answer_to, moved, guest_moves, host_moves, dial_offers, guest_opens, host_opens_all, guest_closes, host_closes, only_sub, ends_given_back}
+use Rattle.control_model.specs.GuestAt.{guest_from, host_from, lists_dialed, opens_listed, answers_list, answers_open, from_first_sub, gives_sub, gives_one, takes_one, end_to_say, end_to_hear, moves_to_say, start_to_say, to_say, to_hear, GuestStands}
+use Rattle.control_model.specs.GuestAt.GuestStands.{fresh, proposes as IsProposing, asks, contacted, offers as IsOffering, dials, lists, opens as IsOpened, moves, started, closes as IsClosing, gives_back, gives_sub_back, ended, leaves, is_over}
+use Rattle.gpadl.proofs.Cutting.{cuts_so}
 use Rattle.control_model.proofs.KindLaws.{kind_of_class}
-use Rattle.control_model.specs.Stand.{At, EndsAt, offered_before, offered_by, marked, end_state, guest_is, guest_ends, guest_before, Stand, Tries, Agreed, Meet, vps_before}
+use Rattle.control_model.specs.Stand.{At, EndsAt, offered_before, offered_by, offered_for, count_dialed, marked, end_state, guest_is, guest_ends, guest_before, Stand, Tries, Agreed, Meet, vps_before}
 use Rattle.control_laws.proofs.NextOne.{guest_next_awaits, guest_next_stands, guest_next_sends}
 use Rattle.control_laws.proofs.Logs.{Logs, a_guest}
 use Rattle.control_laws.proofs.Marks.{by_test, same, at_relid, marked_apart, marked_here, marked_there, stand_now, stand_add, stand_mark, stand_join, stand_at}
 use Rattle.control_laws.proofs.Closing.{Distinct, distinct_mid}
 use Rattle.control_laws.proofs.Cutting.{all_weaker, mid_all}
-use Rattle.control_laws.proofs.Counts.{count_next, unopened}
+use Rattle.control_laws.proofs.Counts.{count_next, done_known, unopened, service_at}
 use Rattle.control_laws.proofs.Plans.{phase_has, facts, opening_from, opening_here, offered_here, done_more, place_more, end_facts, closing_here, ends_more, ends_place}
 use Rattle.control_laws.proofs.Lower.{lower_one}
 use Rattle.control_laws.proofs.Offering.{kind_same, one_more, all_alike}
@@ -51,7 +52,7 @@ use Rattle.control_laws.proofs.Vps.{vp_known, moved_all, moved_distinct, movers_
 use Rattle.control_laws.proofs.Moving.{Known, phase_known, guest_opened, then_now, next_list, answers_left}
 use Rattle.control_laws.proofs.NextEnd.{NextIs, next_is, heard_with, GuestEnds, guest_goes, guest_stands_so, guest_next}
 use Rattle.control_laws.proofs.Tried.{one_tried, next_tried, first_tried}
-use Rattle.control_laws.proofs.Saying.{drop_all, left_at, left_behind, ends_left, ends_said, ends_heard}
+use Rattle.control_laws.proofs.Saying.{lists_more, answers_more, drop_all, left_at, left_behind, ends_left, ends_said, ends_heard}
 use Rattle.control_laws.proofs.Seats.{AreSubs, all_snoc, first_run, no_first, no_subs_next, sub_at}
 
 -- a message is taken, and the guest goes on
@@ -105,6 +106,11 @@ left_of [] (suc n) kind left is = absurd (cc)
 left_of (k ∷ kinds) zero kind left is = let first : k ≡ kind = cc in let rest : kinds ≡ left = cc in (ap Some first, rest, omega arith)
 left_of (k ∷ kinds) (suc n) kind left is = let rest = left_of kinds n kind left is in (rest.0, rest.1, omega (arith, rest.2))
 
+some_get : (kinds : List Kind) (n : ℕ) (kind : Kind) → slice_get kinds n ≡ Some kind → get_or kinds n kind ≡ kind
+some_get [] n kind is = refl
+some_get (k ∷ kinds) zero kind is = cc
+some_get (k ∷ kinds) (suc n) kind is = some_get kinds n kind is
+
 none_left : (kinds : List Kind) (n : ℕ) → n ≤ length kinds → drop n kinds ≡ [] → n ≡ length kinds
 none_left [] zero few is = refl
 none_left [] (suc n) few is = absurd (omega (arith, few))
@@ -112,8 +118,8 @@ none_left (k ∷ kinds) zero few is = absurd (cc)
 none_left (k ∷ kinds) (suc n) few is = ap (λ m. suc m) (none_left kinds n (omega (arith, few)) is)
 
 -- OFFERCHANNEL
-step_offering : (plan : BusPlan) (logs : Logs) (v : Version) (n : ℕ) (kind : Kind) (left : List Kind) → Agreed plan v → drop n plan.kinds ≡ kind ∷ left → GuestStep plan (a_guest plan logs (Some Contact) Offers (Some v) (replicate n offered_channel)) (offer kind (n + 1) 0)
-step_offering plan logs v n kind left agreed is =
+step_offering : (plan : BusPlan) (logs : Logs) (v : Version) (n : ℕ) (kind : Kind) (left : List Kind) → HasPort kind → Agreed plan v → drop n plan.kinds ≡ kind ∷ left → GuestStep plan (a_guest plan logs (Some Contact) Offers (Some v) (replicate n offered_channel)) (offer kind (n + 1) 0)
+step_offering plan logs v n kind left fits agreed is =
     let guests : List Channel = replicate n offered_channel in
     let g : GuestSeen = a_guest plan logs (Some Contact) Offers (Some v) guests in
     let turn : GuestTurn = record (idle g) { heard = Offered offered_channel } in
@@ -129,7 +135,7 @@ step_offering plan logs v n kind left agreed is =
     let more : guests ++ offered_channel ∷ [] ≡ replicate (suc n) offered_channel = one_more n offered_channel in
     record {
       turn = turn;
-      hears = ap (on_offer g (class_id kind) 0 (n + 1)) (kind_of_class kind (class_id kind) refl) ∙ ap (λ t. Ok t) takes;
+      hears = ap (on_offer g (class_id kind) 0 (n + 1)) (kind_of_class kind (class_id kind) fits refl) ∙ ap (λ t. Ok t) takes;
       goes = subst (GuestStands plan (Some Contact) Offers (Some v)) (sym more) (asks v (suc n) agreed there.2);
       says = λ sent e. ap (λ s. s ++ guest_from plan 0) (sym e);
       heard = (λ i. (offers_from (many i + 1) (these i) ++ delivered ∷ []) ++ host_from plan 0) ∙ ap (λ xs. m ∷ ((xs ++ delivered ∷ []) ++ host_from plan 0)) (sym (λ i. offers_from (long i + 1) (those i)));
@@ -152,14 +158,60 @@ step_offered plan logs v n agreed few is =
       heard = ap (λ ks. (offers_from (length guests + 1) ks ++ delivered ∷ []) ++ host_from plan 0) none;
     }
 
+-- OFFERCHANNEL of a service that was asked for: its page list is sent
+port_kind : (port : ℕ) (dialed : Option ℕ) → dialed ≡ Some port → IsPort dialed → HasPort (Sock port)
+port_kind port None e fits = absurd (cc)
+port_kind port (Some p) e fits = let is : p ≡ port = cc in subst (λ n. n < 2 ^ 32) is fits
+
+step_dialed : (plan : BusPlan) (logs : Logs) (v : Version) (guests : List Channel) (phase place : ℕ) (done : List Opening) (o : Opening) (left : List Opening) (port : ℕ) → IsPlan plan
+    → At plan phase place done o left → o.dialed ≡ Some port → Meet plan v guests (offered_by plan phase done (o ∷ left)) (marked (guest_is (vps_before plan phase) Opened) done (guest_before (vps_before plan phase) plan phase))
+    → GuestStep plan (a_guest plan logs (Some (PhaseStart phase)) (ServiceOffer place) (Some v) guests) (offer_service port o.relid)
+step_dialed plan logs v guests phase place done o left port planned at is meet =
+    let g : GuestSeen = a_guest plan logs (Some (PhaseStart phase)) (ServiceOffer place) (Some v) guests in
+    let os : List Opening = phase_of plan phase in
+    let m : Msg = offer_service port o.relid in
+    let fact = facts plan phase place done o left planned at in
+    let turn : GuestTurn = lists_turn (heard_so (ServiceOffer place) v (Offered offered_channel)) place o in
+    let stands : ℕ → Channel = marked (guest_is (vps_before plan phase) Opened) done (guest_before (vps_before plan phase) plan phase) in
+    let count : ℕ = offered_by plan phase done (o ∷ left) in
+    let alone = fact.fits.alone (ap is_some is) in
+    let spot = service_at plan phase place done o left planned at (ap is_some is) in
+    let many = meet.stand.many in
+    let next_one : o.relid ≡ length guests + 1 = omega (arith, spot, many) in
+    let mine : is_service (Sock port) o.dialed ≡ true = ap (is_service (Sock port)) is ∙ kind_same (Sock port) in
+    let is_it : is_service_offer g o (Sock port) 0 o.relid ≡ true = ap (λ n. (((o.relid == n) && (o.relid == o.relid)) && true) && is_service (Sock port) o.dialed) (sym next_one) ∙ (λ i. ((same o.relid i && same o.relid i) && true) && mine i) in
+    let takes : service_offered g place (Sock port) 0 o.relid (Some o) ≡ turn = ap (λ b. if b then turn else idle g) is_it in
+    let one = ap count_dialed is in
+    let more : count + 1 ≡ offered_for plan phase done o left = omega (arith, one) in
+    let in_plan = at.in_plan in
+    let fresh : (q : ℕ) → count < q → q ≤ count + 1 → stands q ≡ offered_channel = λ q above few.
+    marked_apart (guest_is (vps_before plan phase) Opened) done (guest_before (vps_before plan phase) plan phase) q (all_weaker (λ p. p.relid ≤ count) (λ p. p.relid ≢ q) (λ p l e. absurd (omega (arith, l, e, above))) done (done_known plan phase place done o left planned at))
+    ∙ unopened plan (guest_ends (vps_before plan phase)) offered_channel phase q planned (omega (arith, in_plan)) (omega (arith, above)) in
+    let after = subst (λ n. Stand (guests ++ offered_channel ∷ []) n stands) more (stand_add guests count 1 stands offered_channel meet.stand fresh) in
+    let here = left_at plan phase place done (o ∷ left) at.phase_is at.place_is in
+    let back = sym here in
+    let fits = port_kind port o.dialed is fact.fits.port in
+    record {
+      turn = turn;
+      hears = ap (on_offer g (class_id (Sock port)) 0 o.relid) (kind_of_class (Sock port) (class_id (Sock port)) fits refl) ∙ ap (λ x. Ok (service_offered g place (Sock port) 0 o.relid x)) (opening_here plan phase place done o left at) ∙ ap (λ t. Ok t) takes;
+      goes = lists v (guests ++ offered_channel ∷ []) phase place done o left at (record { agreed = meet.agreed; stand = after });
+      says = λ sent sends.
+          let later : List Msg = guest_moves plan os ++ (flat_map guest_closes (closing_of plan phase) ++ guest_from plan (suc phase)) in
+          let whole = sym (cuts_so o.relid o.gpadl (pages_from o) sent sends) in
+          ap (λ xs. lists_dialed xs ++ later) here ∙ lists_more o left later ∙ (λ i. whole i ++ (opens_listed (back i) ++ later));
+      heard =
+          let later : List Msg = host_moves plan os ++ (flat_map host_closes (closing_of plan phase) ++ host_from plan (suc phase)) in
+          ap (λ xs. host_opens_all xs ++ later) here ∙ answers_more o left later ∙ ap (λ d. dial_offers o.relid d ++ (answers_list (o ∷ left) ++ later)) is ∙ ap (λ xs. m ∷ (answers_list xs ++ later)) back;
+    }
+
 -- GPADL_CREATED
 pub step_listed : (plan : BusPlan) (logs : Logs) (v : Version) (guests : List Channel) (phase place : ℕ) (done : List Opening) (o : Opening) (left : List Opening) → IsPlan plan
-    → At plan phase place done o left → Meet plan v guests (offered_by plan phase done (o ∷ left)) (marked (guest_is (vps_before plan phase) Opened) done (guest_before (vps_before plan phase) plan phase))
+    → At plan phase place done o left → Meet plan v guests (offered_for plan phase done o left) (marked (guest_is (vps_before plan phase) Opened) done (guest_before (vps_before plan phase) plan phase))
     → GuestStep plan (a_guest plan logs (Some (PhaseStart phase)) (Created place) (Some v) guests) (created o.relid o.gpadl)
 step_listed plan logs v guests phase place done o left planned at meet =
     let g : GuestSeen = a_guest plan logs (Some (PhaseStart phase)) (Created place) (Some v) guests in
     let m : Msg = created o.relid o.gpadl in
-    let count : ℕ = offered_by plan phase done (o ∷ left) in
+    let count : ℕ = offered_for plan phase done o left in
     let fact = facts plan phase place done o left planned at in
     let mine = offered_here plan phase place done o left planned at in
     let c : Channel = guest_before (vps_before plan phase) plan phase o.relid in
@@ -183,22 +235,22 @@ step_listed plan logs v guests phase place done o left planned at meet =
           ap (λ os. opens_listed os ++ later) here ∙ (λ i. asks i ++ (flat_map guest_opens (behind i) ++ later));
       heard =
           let later : List Msg = host_moves plan (phase_of plan phase) ++ (flat_map host_closes (closing_of plan phase) ++ host_from plan (suc phase)) in
-          ap (λ os. host_opens_all os ++ later) here ∙ ap (λ os. m ∷ (answers_open os ++ later)) (sym here);
+          ap (λ os. answers_list os ++ later) here ∙ ap (λ os. m ∷ (answers_open os ++ later)) (sym here);
     }
 
 -- OPENCHANNEL_RESULT: the channel is open
 record IsOpen (plan : BusPlan) (v : Version) (guests : List Channel) (phase place : ℕ) (done : List Opening) (o : Opening) (left : List Opening) : Type 0 where
   known : by_relid guests o.relid ≡ Some (guest_is (vps_before plan phase) IsOpening o)
-  stand : Stand (slice_set guests (o.relid - 1) (guest_is (vps_before plan phase) Opened o)) (offered_by plan phase done (o ∷ left)) (marked (guest_is (vps_before plan phase) Opened) (done ++ o ∷ []) (guest_before (vps_before plan phase) plan phase))
+  stand : Stand (slice_set guests (o.relid - 1) (guest_is (vps_before plan phase) Opened o)) (offered_for plan phase done o left) (marked (guest_is (vps_before plan phase) Opened) (done ++ o ∷ []) (guest_before (vps_before plan phase) plan phase))
   next : opening_at plan phase (place + 1) ≡ slice_get left 0
   answers : (later : List Msg) → answers_open (drop place (phase_of plan phase)) ++ later ≡ opened o.relid o.relid ∷ ((map offer_sub (subs_next (o ∷ left)) ++ host_opens_all left) ++ later)
 
 is_open : (plan : BusPlan) (v : Version) (guests : List Channel) (phase place : ℕ) (done : List Opening) (o : Opening) (left : List Opening) → IsPlan plan
-    → At plan phase place done o left → Meet plan v guests (offered_by plan phase done (o ∷ left)) (marked (guest_is (vps_before plan phase) Opened) done (marked (guest_is (vps_before plan phase) IsOpening) (o ∷ []) (guest_before (vps_before plan phase) plan phase))) → IsOpen plan v guests phase place done o left
+    → At plan phase place done o left → Meet plan v guests (offered_for plan phase done o left) (marked (guest_is (vps_before plan phase) Opened) done (marked (guest_is (vps_before plan phase) IsOpening) (o ∷ []) (guest_before (vps_before plan phase) plan phase))) → IsOpen plan v guests phase place done o left
 is_open plan v guests phase place done o left planned at meet =
     let fact = facts plan phase place done o left planned at in
     let mine = offered_here plan phase place done o left planned at in
-    let count : ℕ = offered_by plan phase done (o ∷ left) in
+    let count : ℕ = offered_for plan phase done o left in
     let base : ℕ → Channel = guest_before (vps_before plan phase) plan phase in
     record {
       known = stand_at guests count (guest_is (vps_before plan phase) Opened) done o (marked (guest_is (vps_before plan phase) IsOpening) (o ∷ []) base) (guest_is (vps_before plan phase) IsOpening o) meet.stand fact.fits.named mine fact.done_apart (marked_here (guest_is (vps_before plan phase) IsOpening) o [] base);
@@ -209,7 +261,7 @@ is_open plan v guests phase place done o left planned at meet =
 
 -- the guest goes on with the next opening
 step_open_one : (plan : BusPlan) (logs : Logs) (v : Version) (guests : List Channel) (phase place : ℕ) (done : List Opening) (o : Opening) (left : List Opening) → IsPlan plan
-    → At plan phase place done o left → Meet plan v guests (offered_by plan phase done (o ∷ left)) (marked (guest_is (vps_before plan phase) Opened) done (marked (guest_is (vps_before plan phase) IsOpening) (o ∷ []) (guest_before (vps_before plan phase) plan phase)))
+    → At plan phase place done o left → Meet plan v guests (offered_for plan phase done o left) (marked (guest_is (vps_before plan phase) Opened) done (marked (guest_is (vps_before plan phase) IsOpening) (o ∷ []) (guest_before (vps_before plan phase) plan phase)))
     → (not (is_sub o) && is_of_sub (opening_at plan phase (place + 1))) ≡ false → GuestStep plan (a_guest plan logs (Some (PhaseStart phase)) (AwaitsOpened place) (Some v) guests) (opened o.relid o.relid)
 step_open_one plan logs v guests phase place done o left planned at meet none =
     let g : GuestSeen = a_guest plan logs (Some (PhaseStart phase)) (AwaitsOpened place) (Some v) guests in
@@ -222,9 +274,9 @@ step_open_one plan logs v guests phase place done o left planned at meet none =
     let asked : opened_for g heard place o.relid 0 (Some o) ≡ opens_next g heard place o (opening_at plan phase (place + 1)) = rw (same o.relid) refl in
     let on : opens_next g heard place o (opening_at plan phase (place + 1)) ≡ turn = ap (λ b. if b then record heard { awaits = SubOffer (place + 1) } else turn) none in
     let no_subs = no_subs_next o left (sym (ap (λ x. not (is_sub o) && is_of_sub x) opened_so.next) ∙ none) in
-    let more = count_next plan phase done o left in
+    let more = count_next plan phase done o left fact.fits.alone in
     let no_more = ap length no_subs in
-    let same_count : offered_by plan phase done (o ∷ left) ≡ offered_by plan phase (done ++ o ∷ []) left = omega (arith, more, no_more) in
+    let same_count : offered_for plan phase done o left ≡ offered_by plan phase (done ++ o ∷ []) left = omega (arith, more, no_more) in
     let after = subst (λ n. Stand (slice_set guests (o.relid - 1) now) n (marked (guest_is (vps_before plan phase) Opened) (done ++ o ∷ []) (guest_before (vps_before plan phase) plan phase))) same_count opened_so.stand in
     let onward = next_list plan logs (Some (PhaseStart phase)) v guests phase (place + 1) (done ++ o ∷ []) left (AwaitsOpened place) (AwaitsOpened place) (Now o.relid now) planned at.in_plan (done_more plan phase place done o left at) (place_more plan phase place done o left at) (record { agreed = meet.agreed; stand = after })
     (λ none relid some. then_now g o.relid relid now fact.fits.named (let many = meet.stand.many in let few = offered_here plan phase place done o left planned at in omega (arith, many, few)) some) in
@@ -243,7 +295,7 @@ step_open_one plan logs v guests phase place done o left planned at meet none =
 
 -- the offers of the device's sub-channels come before
 step_open_subs : (plan : BusPlan) (logs : Logs) (v : Version) (guests : List Channel) (phase place : ℕ) (done : List Opening) (o : Opening) (left : List Opening) → IsPlan plan
-    → At plan phase place done o left → Meet plan v guests (offered_by plan phase done (o ∷ left)) (marked (guest_is (vps_before plan phase) Opened) done (marked (guest_is (vps_before plan phase) IsOpening) (o ∷ []) (guest_before (vps_before plan phase) plan phase)))
+    → At plan phase place done o left → Meet plan v guests (offered_for plan phase done o left) (marked (guest_is (vps_before plan phase) Opened) done (marked (guest_is (vps_before plan phase) IsOpening) (o ∷ []) (guest_before (vps_before plan phase) plan phase)))
     → is_sub o ≡ false → is_of_sub (slice_get left 0) ≡ true → GuestStep plan (a_guest plan logs (Some (PhaseStart phase)) (AwaitsOpened place) (Some v) guests) (opened o.relid o.relid)
 step_open_subs plan logs v guests phase place done o [] planned at meet is_first is_next = absurd (cc)
 step_open_subs plan logs v guests phase place done o (p ∷ left) planned at meet is_first is_next =
@@ -261,8 +313,10 @@ step_open_subs plan logs v guests phase place done o (p ∷ left) planned at mee
     let there : At plan phase (place + 1) (done ++ o ∷ []) p left = record { in_plan = at.in_plan; phase_is = done_more plan phase place done o (p ∷ left) at; place_is = place_more plan phase place done o (p ∷ left) at } in
     let subs : AreSubs (p ∷ []) = (is_next, tt) in
     let spot = sub_at plan phase (place + 1) done o [] p left planned there is_first subs in
-    let none : length (first_subs (o ∷ (p ∷ left))) ≡ 0 = ap (λ b. length (if b then o ∷ first_subs (p ∷ left) else [])) is_first in
-    let same_count : offered_by plan phase done (o ∷ (p ∷ left)) ≡ offered_by plan phase done [] + 0 = omega (arith, none) in
+    let fact = facts plan phase place done o (p ∷ left) planned at in
+    let counts = count_next plan phase done o (p ∷ left) fact.fits.alone in
+    let behind : length (subs_next (o ∷ (p ∷ left))) ≡ length (first_subs (p ∷ left)) = ap (λ b. length (if b then [] else first_subs (p ∷ left))) is_first in
+    let same_count : offered_for plan phase done o (p ∷ left) ≡ offered_by plan phase (done ++ o ∷ []) [] + 0 = omega (arith, counts, behind) in
     let after = subst (λ n. Stand (slice_set guests (o.relid - 1) now) n (marked (guest_is (vps_before plan phase) Opened) (done ++ o ∷ []) (guest_before (vps_before plan phase) plan phase))) same_count opened_so.stand in
     record {
       turn = turn;
@@ -285,7 +339,7 @@ and_both true b e = absurd (cc)
 and_both false b e = (refl, e)
 
 pub step_open : (plan : BusPlan) (logs : Logs) (v : Version) (guests : List Channel) (phase place : ℕ) (done : List Opening) (o : Opening) (left : List Opening) → IsPlan plan
-    → At plan phase place done o left → Meet plan v guests (offered_by plan phase done (o ∷ left)) (marked (guest_is (vps_before plan phase) Opened) done (marked (guest_is (vps_before plan phase) IsOpening) (o ∷ []) (guest_before (vps_before plan phase) plan phase)))
+    → At plan phase place done o left → Meet plan v guests (offered_for plan phase done o left) (marked (guest_is (vps_before plan phase) Opened) done (marked (guest_is (vps_before plan phase) IsOpening) (o ∷ []) (guest_before (vps_before plan phase) plan phase)))
     → GuestStep plan (a_guest plan logs (Some (PhaseStart phase)) (AwaitsOpened place) (Some v) guests) (opened o.relid o.relid)
 step_open plan logs v guests phase place done o left planned at meet =
     let next : opening_at plan phase (place + 1) ≡ slice_get left 0 = opening_from plan phase (place + 1) (done ++ o ∷ []) left (done_more plan phase place done o left at) (place_more plan phase place done o left at) in
@@ -297,18 +351,18 @@ step_open plan logs v guests phase place done o left planned at meet =
 record IsOffered (plan : BusPlan) (logs : Logs) (v : Version) (guests : List Channel) (phase place : ℕ) (done : List Opening) (first : Opening) (offered : List Opening) (o : Opening) (left : List Opening) : Type 0 where
   hears : guest_hears (a_guest plan logs (Some (PhaseStart phase)) (SubOffer place) (Some v) guests) (offer_sub o)
       ≡ Ok (goes_behind (a_guest plan logs (Some (PhaseStart phase)) (SubOffer place) (Some v) guests) (heard_so (SubOffer place) v (Offered offered_channel)) place o)
-  stand : Stand (guests ++ offered_channel ∷ []) ((offered_by plan phase done [] + length offered) + 1) (marked (guest_is (vps_before plan phase) Opened) (done ++ first ∷ []) (guest_before (vps_before plan phase) plan phase))
+  stand : Stand (guests ++ offered_channel ∷ []) ((offered_by plan phase (done ++ first ∷ []) [] + length offered) + 1) (marked (guest_is (vps_before plan phase) Opened) (done ++ first ∷ []) (guest_before (vps_before plan phase) plan phase))
   next : opening_at plan phase (place + 1) ≡ slice_get left 0
 
 is_offered : (plan : BusPlan) (logs : Logs) (v : Version) (guests : List Channel) (phase place : ℕ) (done : List Opening) (first : Opening) (offered : List Opening) (o : Opening) (left : List Opening) → IsPlan plan
     → At plan phase place (done ++ first ∷ offered) o left → is_sub first ≡ false → AreSubs (offered ++ o ∷ [])
-    → Meet plan v guests (offered_by plan phase done [] + length offered) (marked (guest_is (vps_before plan phase) Opened) (done ++ first ∷ []) (guest_before (vps_before plan phase) plan phase))
+    → Meet plan v guests (offered_by plan phase (done ++ first ∷ []) [] + length offered) (marked (guest_is (vps_before plan phase) Opened) (done ++ first ∷ []) (guest_before (vps_before plan phase) plan phase))
     → IsOffered plan logs v guests phase place done first offered o left
 is_offered plan logs v guests phase place done first offered o left planned at is_first subs meet =
     let g : GuestSeen = a_guest plan logs (Some (PhaseStart phase)) (SubOffer place) (Some v) guests in
     let front : List Opening = done ++ first ∷ offered in
     let spot = sub_at plan phase place done first offered o left planned at is_first subs in
-    let count : ℕ = offered_by plan phase done [] + length offered in
+    let count : ℕ = offered_by plan phase (done ++ first ∷ []) [] + length offered in
     let base : ℕ → Channel = guest_before (vps_before plan phase) plan phase in
     let heard : GuestTurn = heard_so (SubOffer place) v (Offered offered_channel) in
     let many = meet.stand.many in
@@ -318,10 +372,10 @@ is_offered plan logs v guests phase place done first offered o left planned at i
     let takes : sub_offered g place Disk o.sub o.relid (Some o) ≡ goes_behind g heard place o = ap (λ b. if b then goes_behind g heard place o else idle g) is_it in
     let in_plan = at.in_plan in
     let fresh : (q : ℕ) → count < q → q ≤ count + 1 → marked (guest_is (vps_before plan phase) Opened) (done ++ first ∷ []) base q ≡ offered_channel = λ q above few.
-    marked_apart (guest_is (vps_before plan phase) Opened) (done ++ first ∷ []) base q (all_weaker (λ p. p.relid ≤ offered_by plan phase done []) (λ p. p.relid ≢ q) (λ p l e. absurd (omega (arith, l, e, above))) (done ++ first ∷ []) spot.known)
+    marked_apart (guest_is (vps_before plan phase) Opened) (done ++ first ∷ []) base q (all_weaker (λ p. p.relid ≤ offered_by plan phase (done ++ first ∷ []) []) (λ p. p.relid ≢ q) (λ p l e. absurd (omega (arith, l, e, above))) (done ++ first ∷ []) spot.known)
     ∙ unopened plan (guest_ends (vps_before plan phase)) offered_channel phase q planned (omega (arith, in_plan)) (omega (arith, above)) in
     record {
-      hears = ap (on_offer g (class_id Disk) o.sub o.relid) (kind_of_class Disk (class_id Disk) refl) ∙ ap (λ x. Ok (sub_offered g place Disk o.sub o.relid x)) (opening_here plan phase place front o left at) ∙ ap (λ t. Ok t) takes;
+      hears = ap (on_offer g (class_id Disk) o.sub o.relid) (kind_of_class Disk (class_id Disk) tt refl) ∙ ap (λ x. Ok (sub_offered g place Disk o.sub o.relid x)) (opening_here plan phase place front o left at) ∙ ap (λ t. Ok t) takes;
       stand = stand_add guests count 1 (marked (guest_is (vps_before plan phase) Opened) (done ++ first ∷ []) base) offered_channel meet.stand fresh;
       next = opening_from plan phase (place + 1) (front ++ o ∷ []) left (done_more plan phase place front o left at) (place_more plan phase place front o left at);
     }
@@ -329,7 +383,7 @@ is_offered plan logs v guests phase place done first offered o left planned at i
 -- one more of them is offered
 step_offer_more : (plan : BusPlan) (logs : Logs) (v : Version) (guests : List Channel) (phase place : ℕ) (done : List Opening) (first : Opening) (offered : List Opening) (o : Opening) (left : List Opening) → IsPlan plan
     → At plan phase place (done ++ first ∷ offered) o left → is_sub first ≡ false → AreSubs (offered ++ o ∷ [])
-    → Meet plan v guests (offered_by plan phase done [] + length offered) (marked (guest_is (vps_before plan phase) Opened) (done ++ first ∷ []) (guest_before (vps_before plan phase) plan phase)) → is_of_sub (slice_get left 0) ≡ true
+    → Meet plan v guests (offered_by plan phase (done ++ first ∷ []) [] + length offered) (marked (guest_is (vps_before plan phase) Opened) (done ++ first ∷ []) (guest_before (vps_before plan phase) plan phase)) → is_of_sub (slice_get left 0) ≡ true
     → GuestStep plan (a_guest plan logs (Some (PhaseStart phase)) (SubOffer place) (Some v) guests) (offer_sub o)
 step_offer_more plan logs v guests phase place done first offered o [] planned at is_first subs meet is_next = absurd (cc)
 step_offer_more plan logs v guests phase place done first offered o (p ∷ left) planned at is_first subs meet is_next =
@@ -349,7 +403,7 @@ step_offer_more plan logs v guests phase place done first offered o (p ∷ left)
     let more : AreSubs ((offered ++ o ∷ []) ++ p ∷ []) = all_snoc (λ q. is_sub q ≡ true) (offered ++ o ∷ []) p subs is_next in
     let spot2 = sub_at plan phase (place + 1) done first (offered ++ o ∷ []) p left planned there is_first more in
     let sum = length-append offered (o ∷ []) in
-    let count : (offered_by plan phase done [] + length offered) + 1 ≡ offered_by plan phase done [] + length (offered ++ o ∷ []) = omega (arith, sum) in
+    let count : (offered_by plan phase (done ++ first ∷ []) [] + length offered) + 1 ≡ offered_by plan phase (done ++ first ∷ []) [] + length (offered ++ o ∷ []) = omega (arith, sum) in
     let after = subst (λ n. Stand (guests ++ offered_channel ∷ []) n (marked (guest_is (vps_before plan phase) Opened) (done ++ first ∷ []) (guest_before (vps_before plan phase) plan phase))) count on.stand in
     let same_front : from_first_sub os place (drop place os) ≡ from_first_sub os (place + 1) (drop (place + 1) os) = spot.from_first ∙ sym (append_assoc offered (o ∷ []) (p ∷ left)) ∙ sym spot2.from_first in
     let here = spot.here in
@@ -372,7 +426,7 @@ step_offer_more plan logs v guests phase place done first offered o (p ∷ left)
 -- all of them are, and the first one's page list is sent
 step_offer_last : (plan : BusPlan) (logs : Logs) (v : Version) (guests : List Channel) (phase place : ℕ) (done : List Opening) (first : Opening) (offered : List Opening) (o : Opening) (left : List Opening) → IsPlan plan
     → At plan phase place (done ++ first ∷ offered) o left → is_sub first ≡ false → AreSubs (offered ++ o ∷ [])
-    → Meet plan v guests (offered_by plan phase done [] + length offered) (marked (guest_is (vps_before plan phase) Opened) (done ++ first ∷ []) (guest_before (vps_before plan phase) plan phase)) → is_of_sub (slice_get left 0) ≡ false
+    → Meet plan v guests (offered_by plan phase (done ++ first ∷ []) [] + length offered) (marked (guest_is (vps_before plan phase) Opened) (done ++ first ∷ []) (guest_before (vps_before plan phase) plan phase)) → is_of_sub (slice_get left 0) ≡ false
     → GuestStep plan (a_guest plan logs (Some (PhaseStart phase)) (SubOffer place) (Some v) guests) (offer_sub o)
 step_offer_last plan logs v guests phase place done first offered o left planned at is_first subs meet last =
     let g : GuestSeen = a_guest plan logs (Some (PhaseStart phase)) (SubOffer place) (Some v) guests in
@@ -391,10 +445,7 @@ step_offer_last plan logs v guests phase place done first offered o left planned
     let all : first_subs behind ≡ offered ++ o ∷ [] = ap first_subs (sym (append_assoc offered (o ∷ []) left)) ∙ first_run (offered ++ o ∷ []) left subs ∙ ap (λ xs. (offered ++ o ∷ []) ++ xs) none ∙ append-nil (offered ++ o ∷ []) in
     let long = ap length all in
     let sum = length-append offered (o ∷ []) in
-    let parts = ap length (filter-append is_sub done (first ∷ [])) in
-    let halves = length-append (subs_in done) (subs_in (first ∷ [])) in
-    let not_first : length (subs_in (first ∷ [])) ≡ 0 = ap (λ b. length (cond b (first ∷ []) [])) is_first in
-    let count : (offered_by plan phase done [] + length offered) + 1 ≡ offered_by plan phase front behind = omega (arith, long, sum, parts, halves, not_first) in
+    let count : (offered_by plan phase (done ++ first ∷ []) [] + length offered) + 1 ≡ offered_by plan phase front behind = omega (arith, long, sum) in
     let after = subst (λ n. Stand (guests ++ offered_channel ∷ []) n (marked (guest_is (vps_before plan phase) Opened) front (guest_before (vps_before plan phase) plan phase))) count on.stand in
     let one = (all_front (λ q. is_sub q ≡ true) offered (o ∷ []) subs).1.0 in
     let here = spot.here in
@@ -419,7 +470,7 @@ step_offer_last plan logs v guests phase place done first offered o left planned
 
 pub step_sub_offered : (plan : BusPlan) (logs : Logs) (v : Version) (guests : List Channel) (phase place : ℕ) (done : List Opening) (first : Opening) (offered : List Opening) (o : Opening) (left : List Opening) → IsPlan plan
     → At plan phase place (done ++ first ∷ offered) o left → is_sub first ≡ false → AreSubs (offered ++ o ∷ [])
-    → Meet plan v guests (offered_by plan phase done [] + length offered) (marked (guest_is (vps_before plan phase) Opened) (done ++ first ∷ []) (guest_before (vps_before plan phase) plan phase))
+    → Meet plan v guests (offered_by plan phase (done ++ first ∷ []) [] + length offered) (marked (guest_is (vps_before plan phase) Opened) (done ++ first ∷ []) (guest_before (vps_before plan phase) plan phase))
     → GuestStep plan (a_guest plan logs (Some (PhaseStart phase)) (SubOffer place) (Some v) guests) (offer_sub o)
 step_sub_offered plan logs v guests phase place done first offered o left planned at is_first subs meet =
     by_test {P = GuestStep plan (a_guest plan logs (Some (PhaseStart phase)) (SubOffer place) (Some v) guests) (offer_sub o)} (is_of_sub (slice_get left 0))
@@ -680,18 +731,31 @@ step_response plan logs v planned tries = by_test {P = GuestGoes plan (a_guest p
     (λ e. let within : v.0 ≤ plan.host.0 = grind (arith, nat_tests, e) in record { next = respond 1; step = step_accepts plan logs v planned (record { tried = tries; within_host = within }) })
     (λ e. let above : plan.host.0 < v.0 = grind (arith, nat_tests, e) in record { next = respond 0; step = step_refuses plan logs v planned tries above })
 
-step_offers : (plan : BusPlan) (logs : Logs) (v : Version) (n : ℕ) (left : List Kind) → Agreed plan v → n ≤ length plan.kinds → drop n plan.kinds ≡ left → GuestGoes plan (a_guest plan logs (Some Contact) Offers (Some v) (replicate n offered_channel))
-step_offers plan logs v n [] agreed few is = record { next = delivered; step = step_offered plan logs v n agreed few is }
-step_offers plan logs v n (kind ∷ left) agreed few is = record { next = offer kind (n + 1) 0; step = step_offering plan logs v n kind left agreed is }
+port_at : (kinds : List Kind) (n : ℕ) (kind : Kind) (left : List Kind) → All HasPort kinds → drop n kinds ≡ kind ∷ left → HasPort kind
+port_at kinds n kind left all is =
+    let here = left_of kinds n kind left is in
+    let few = here.2 in
+    subst HasPort (some_get kinds n kind here.0) (All-get_or HasPort kinds n kind (omega (arith, few)) all)
+
+step_offers : (plan : BusPlan) (logs : Logs) (v : Version) (n : ℕ) (left : List Kind) → IsPlan plan → Agreed plan v → n ≤ length plan.kinds → drop n plan.kinds ≡ left → GuestGoes plan (a_guest plan logs (Some Contact) Offers (Some v) (replicate n offered_channel))
+step_offers plan logs v n [] planned agreed few is = record { next = delivered; step = step_offered plan logs v n agreed few is }
+step_offers plan logs v n (kind ∷ left) planned agreed few is = record { next = offer kind (n + 1) 0; step = step_offering plan logs v n kind left (port_at plan.kinds n kind left planned.ports is) agreed is }
+
+step_service : (plan : BusPlan) (logs : Logs) (v : Version) (guests : List Channel) (phase place : ℕ) (done : List Opening) (o : Opening) (left : List Opening) (dialed : Option ℕ) → IsPlan plan → At plan phase place done o left → o.dialed ≡ dialed → is_some o.dialed ≡ true
+    → Meet plan v guests (offered_by plan phase done (o ∷ left)) (marked (guest_is (vps_before plan phase) Opened) done (guest_before (vps_before plan phase) plan phase))
+    → GuestGoes plan (a_guest plan logs (Some (PhaseStart phase)) (ServiceOffer place) (Some v) guests)
+step_service plan logs v guests phase place done o left None planned at is asked meet = absurd (let wrong : true ≡ false = sym asked ∙ ap is_some is in cc)
+step_service plan logs v guests phase place done o left (Some port) planned at is asked meet = record { next = offer_service port o.relid; step = step_dialed plan logs v guests phase place done o left port planned at is meet }
 
 -- each row in which a guest waits for a message
 pub guest_step : (plan : BusPlan) (logs : Logs) (part : Option Part) (awaits : GuestWait) (version : Option Version) (channels : List Channel) → IsPlan plan → GuestStands plan part awaits version channels → waits_for_nothing awaits ≡ false
     → GuestGoes plan (a_guest plan logs part awaits version channels)
 guest_step plan logs part awaits version channels planned fresh waits = absurd (cc)
 guest_step plan logs part awaits version channels planned (IsProposing v tries) waits = step_response plan logs v planned tries
-guest_step plan logs part awaits version channels planned (asks v n agreed few) waits = step_offers plan logs v n (drop n plan.kinds) agreed few refl
+guest_step plan logs part awaits version channels planned (asks v n agreed few) waits = step_offers plan logs v n (drop n plan.kinds) planned agreed few refl
 guest_step plan logs part awaits version channels planned (contacted v cs meet) waits = absurd (cc)
 guest_step plan logs part awaits version channels planned (IsOffering v cs phase place done first offered o left at is_first subs meet) waits = record { next = offer_sub o; step = step_sub_offered plan logs v cs phase place done first offered o left planned at is_first subs meet }
+guest_step plan logs part awaits version channels planned (dials v cs phase place done o left at asked meet) waits = step_service plan logs v cs phase place done o left o.dialed planned at refl asked meet
 guest_step plan logs part awaits version channels planned (lists v cs phase place done o left at meet) waits = record { next = created o.relid o.gpadl; step = step_listed plan logs v cs phase place done o left planned at meet }
 guest_step plan logs part awaits version channels planned (IsOpened v cs phase place done o left at meet) waits = record { next = opened o.relid o.relid; step = step_open plan logs v cs phase place done o left planned at meet }
 guest_step plan logs part awaits version channels planned (moves v cs phase place done o left in_plan is at answers meet) waits = record { next = modified o.relid; step = step_modified plan logs v cs phase place done o left planned in_plan is at answers meet }

@@ -4,6 +4,11 @@ use Rattle.std.specs.Option.{option_to_list}
 use Rattle.std.specs.List.{AllByRecursion, flat_map}
 use Rattle.std.proofs.lemmas.Bool.Decides.{nat_tests}
 use Rattle.std.proofs.lemmas.List.Concat.{flat_map-cons}
+use Rattle.std.proofs.lemmas.List.FromFn.{length-range_with_len}
+use Rattle.std.proofs.lemmas.Slice.Eq.{bytes_eq-Decides}
+use Rattle.std.specs.Str.{bytes_eq}
+use Rattle.contact.specs.Services.{service_id}
+use Rattle.gpadl.specs.Cut.{cut}
 use Rattle.contact.specs.declared.version.Version.{Version}
 use Rattle.contact.specs.declared.kind.Kind.{Kind}
 use Rattle.contact.specs.declared.part.Part.{Part}
@@ -21,25 +26,25 @@ use Rattle.control_model.specs.declared.burst.Burst.TheVariants.{Empty, One, Two
 use Rattle.control_model.specs.declared.fault.ControlFault.TheVariants.{Gpadl}
 use Rattle.gpadl.specs.declared.fault.GpadlFault.TheVariants.{Handle}
 use Rattle.control_model.specs.declared.host_wait.HostWait.{HostWait}
-use Rattle.control_model.specs.declared.host_wait.HostWait.TheVariants.{Contact as AwaitsContact, Request, Open as AwaitsOpen, Modify as AwaitsModify, Close as AwaitsClose, Teardown as AwaitsTeardown, Release as AwaitsRelease, Unload as AwaitsUnload}
+use Rattle.control_model.specs.declared.host_wait.HostWait.TheVariants.{Contact as AwaitsContact, Request, Connect as AwaitsConnect, List as AwaitsList, Open as AwaitsOpen, Modify as AwaitsModify, Close as AwaitsClose, Teardown as AwaitsTeardown, Release as AwaitsRelease, Unload as AwaitsUnload}
 use Rattle.control_model.specs.declared.host_next.HostNext.{HostNext}
-use Rattle.control_model.specs.Plan.{BusPlan, is_sub, subs_next, subs_behind, opening_at, closing_at, IsPlan, phase_of, closing_of, movers_in, vp_for}
+use Rattle.control_model.specs.Plan.{BusPlan, is_sub, subs_next, subs_behind, opening_at, closing_at, IsPlan, phase_of, closing_of, movers_in, vp_for, list_pages}
 use Rattle.control_model.specs.Channels.{by_relid, stands, goes_by}
-use Rattle.control_model.specs.Messages.{propose, respond, request, delivered, open_on, opened, modify, modified, offer_sub, close, teardown, torndown, rescind, release, farewell, Sends}
-use Rattle.control_model.specs.Host.{HostSeen, HostTurn, at_rest, on_request, offered_life, with_offers, subs_offered, with_subs, opened_then, open_by, on_open, on_close, torn_for, on_teardown, on_release, is_of, waits_list, waits_move, modify_by, moved_then, on_modify, stays, next_end, without, wants_rescind, rescinded_among, and_rescind, goes_next, on_unload, host_hears}
-use Rattle.control_model.specs.Stand.{At, EndsAt, offered_before, offered_by, marked, end_state, host_is, host_ends, host_before, Stand, Tries, Agreed, Meet, handles, vps_before}
+use Rattle.control_model.specs.Messages.{propose, respond, request, delivered, connect, pages_from, open_on, opened, modify, modified, offer_sub, close, teardown, torndown, rescind, release, farewell, Sends}
+use Rattle.control_model.specs.Host.{HostSeen, HostTurn, at_rest, connects, connects_to, offers_service, on_request, offered_life, with_offers, subs_offered, with_subs, opened_then, open_by, on_open, on_close, torn_for, on_teardown, on_release, is_of, waits_list, waits_move, modify_by, moved_then, on_modify, stays, next_end, without, wants_rescind, rescinded_among, and_rescind, goes_next, on_unload, host_hears}
+use Rattle.control_model.specs.Stand.{At, EndsAt, offered_before, offered_by, offered_for, count_dialed, marked, end_state, host_is, host_ends, host_before, Stand, Tries, Agreed, Meet, handles, vps_before}
 use Rattle.control_model.specs.Guest.{is_answered}
-use Rattle.control_model.specs.Said.{answer_to, moved, guest_moves, host_moves, host_opens_all, host_closes, guest_closes, only_sub, ends_given_back}
-use Rattle.control_model.specs.GuestAt.{guest_from, host_from, opens_listed, answers_open, gives_one}
+use Rattle.control_model.specs.Said.{answer_to, dials, dial_offers, moved, guest_moves, host_moves, guest_opens, host_opens_all, host_closes, guest_closes, only_sub, ends_given_back}
+use Rattle.control_model.specs.GuestAt.{guest_from, host_from, lists_dialed, opens_listed, answers_list, answers_open, gives_one}
 use Rattle.control_model.specs.HostAt.{host_start_to_say, host_moves_to_say, tears_down, host_end_to_say, host_end_to_hear, host_to_say, host_to_hear, live_ones, lists_but, HostStands}
-use Rattle.control_model.specs.HostAt.HostStands.{answers, accepts as IsAccepting, contacted, tears, takes_back, is_over}
+use Rattle.control_model.specs.HostAt.HostStands.{answers, accepts as IsAccepting, contacted, lists, tears, takes_back, is_over}
 use Rattle.control_laws.proofs.NextOne.{host_next_awaits, host_next_stands, host_next_done, host_next_sends}
 use Rattle.control_laws.proofs.Logs.{Logs, a_host}
 use Rattle.control_laws.proofs.Vps.{marked_alike, before_alike, host_alike, vp_known, moved_all, moved_distinct, movers_are, answers_are, own_marked, host_says, guest_rest, host_rest}
-use Rattle.control_laws.proofs.Next.{pieces_of}
+use Rattle.control_laws.proofs.Next.{pieces_of, HasFirst, cut_first}
 use Rattle.control_laws.proofs.Moving.{Known, phase_known, next_wait, host_moving, moves_left}
 use Rattle.control_laws.proofs.Tried.{one_tried, next_tried}
-use Rattle.control_laws.proofs.Saying.{left_at, ends_left, ends_behind, host_ends_said, host_ends_heard}
+use Rattle.control_laws.proofs.Saying.{left_at, lists_more, dials_more, answers_more, ends_left, ends_behind, host_ends_said, host_ends_heard}
 use Rattle.control_laws.proofs.Marks.{by_test, same, marked_apart, marked_like, marked_append, marked_here, marked_there, stand_now, stand_mark, stand_join, stand_add, stand_at}
 use Rattle.control_laws.proofs.Closing.{Distinct, distinct_mid}
 use Rattle.control_laws.proofs.Cutting.{all_weaker, mid_all}
@@ -122,9 +127,53 @@ step_asks plan logs v agreed =
       heard = refl;
     }
 
+-- TL_CONNECT_REQUEST: the channel of the service is offered
+pub step_connects : (plan : BusPlan) (logs : Logs) (v : Version) (hosts : List ChanState) (phase place : ℕ) (done : List Opening) (o : Opening) (left : List Opening) (port : ℕ) → IsPlan plan
+    → At plan phase place done o left → o.dialed ≡ Some port → Meet plan v hosts (offered_by plan phase done (o ∷ left)) (marked (host_is (vps_before plan phase) Opened) done (host_before (vps_before plan phase) plan phase))
+    → HostStep plan (a_host plan logs (Some (PhaseStart phase)) (AwaitsConnect place) (Some v) hosts (live_ones (handles done))) [] (connect port) []
+step_connects plan logs v hosts phase place done o left port planned at is meet =
+    let h : HostSeen = a_host plan logs (Some (PhaseStart phase)) (AwaitsConnect place) (Some v) hosts (live_ones (handles done)) in
+    let os : List Opening = phase_of plan phase in
+    let m : Msg = connect port in
+    let fact = facts plan phase place done o left planned at in
+    let few = fact.fits.some_pages in
+    let long = length-range_with_len o.first_page (list_pages o.ring_pages) in
+    let list : List Msg = cut o.relid o.gpadl (pages_from o) in
+    let whole : HasFirst list = cut_first o.relid o.gpadl (pages_from o) (omega (arith, few, long)) in
+    let turn : HostTurn = offers_service h place port o.relid in
+    let service : List ℕ = service_id port in
+    let stands : ℕ → ChanState = marked (host_is (vps_before plan phase) Opened) done (host_before (vps_before plan phase) plan phase) in
+    let count : ℕ = offered_by plan phase done (o ∷ left) in
+    let mine : bytes_eq service service ≡ true = (bytes_eq-Decides service service).1 refl in
+    let one = ap count_dialed is in
+    let more : count + 1 ≡ offered_for plan phase done o left = omega (arith, one) in
+    let in_plan = at.in_plan in
+    let fresh : (q : ℕ) → count < q → q ≤ count + 1 → stands q ≡ offered_life = λ q above few.
+    marked_apart (host_is (vps_before plan phase) Opened) done (host_before (vps_before plan phase) plan phase) q (all_weaker (λ p. p.relid ≤ count) (λ p. p.relid ≢ q) (λ p l e. absurd (omega (arith, l, e, above))) done (done_known plan phase place done o left planned at))
+    ∙ unopened plan (host_ends (vps_before plan phase)) offered_life phase q planned (omega (arith, in_plan)) (omega (arith, above)) in
+    let after = subst (λ n. Stand (hosts ++ offered_life ∷ []) n stands) more (stand_add hosts count 1 stands offered_life meet.stand fresh) in
+    let here = left_at plan phase place done (o ∷ left) at.phase_is at.place_is in
+    let back = sym here in
+    record {
+      turn = turn;
+      hears = ap (λ x. Ok (connects h place service x)) (opening_here plan phase place done o left at) ∙ ap (λ d. Ok (connects_to h place o service d)) is ∙ ap (λ b. Ok (if b then turn else at_rest h)) mine;
+      tried_then = [];
+      pieces_then = list;
+      goes = subst (HostStands plan (Some (PhaseStart phase)) (AwaitsList place) (Some v) (hosts ++ offered_life ∷ []) (live_ones (handles done)) []) (sym whole.is)
+          (lists v (hosts ++ offered_life ∷ []) phase place done o left (live_ones (handles done)) whole.first whole.rest at (record { agreed = meet.agreed; stand = after }) (record { came = []; whole = whole.is; lists_are = refl }));
+      says = λ sent e.
+          let later : List Msg = host_moves plan os ++ (flat_map host_closes (closing_of plan phase) ++ host_from plan (suc phase)) in
+          let offers : dial_offers o.relid o.dialed ≡ sent = ap (dial_offers o.relid) is ∙ sym e in
+          ap (λ xs. host_opens_all xs ++ later) here ∙ answers_more o left later ∙ (λ i. offers i ++ (answers_list (back i) ++ later));
+      heard =
+          let later : List Msg = guest_moves plan os ++ (flat_map guest_closes (closing_of plan phase) ++ guest_from plan (suc phase)) in
+          ap (λ xs. flat_map guest_opens xs ++ later) here ∙ dials_more o left later ∙ ap (λ d. dials d ++ (lists_dialed (o ∷ left) ++ later)) is
+          ∙ ap (λ xs. m ∷ xs) (lists_more o left later ∙ sym (append_assoc list (opens_listed (o ∷ left)) later) ∙ ap (λ xs. (list ++ opens_listed xs) ++ later) back);
+    }
+
 -- OPENCHANNEL: behind a device's first channel its sub-channels are offered
 pub step_opens : (plan : BusPlan) (logs : Logs) (v : Version) (hosts : List ChanState) (phase place : ℕ) (done : List Opening) (o : Opening) (left : List Opening) → IsPlan plan
-    → At plan phase place done o left → Meet plan v hosts (offered_by plan phase done (o ∷ left)) (marked (host_is (vps_before plan phase) Opened) done (host_before (vps_before plan phase) plan phase))
+    → At plan phase place done o left → Meet plan v hosts (offered_for plan phase done o left) (marked (host_is (vps_before plan phase) Opened) done (host_before (vps_before plan phase) plan phase))
     → HostStep plan (a_host plan logs (Some (PhaseStart phase)) (AwaitsOpen place) (Some v) hosts (live_ones (handles (done ++ o ∷ [])))) [] (open_on o) []
 step_opens plan logs v hosts phase place done o left planned at meet =
     let h : HostSeen = a_host plan logs (Some (PhaseStart phase)) (AwaitsOpen place) (Some v) hosts (live_ones (handles (done ++ o ∷ []))) in
@@ -132,7 +181,7 @@ step_opens plan logs v hosts phase place done o left planned at meet =
     let m : Msg = open_on o in
     let answer : Msg = opened o.relid o.relid in
     let subs : List Opening = subs_next (o ∷ left) in
-    let count : ℕ = offered_by plan phase done (o ∷ left) in
+    let count : ℕ = offered_for plan phase done o left in
     let fact = facts plan phase place done o left planned at in
     let mine_known = offered_here plan phase place done o left planned at in
     let life : ChanState = host_before (vps_before plan phase) plan phase o.relid in
@@ -151,12 +200,12 @@ step_opens plan logs v hosts phase place done o left planned at meet =
     let sends : with_offers h (AwaitsOpen place) o.relid answer ≡ Opens answer part place = ap (λ b. if b then Opens answer part place else One answer) mine in
     let joined : Stand open_now count (marked (host_is (vps_before plan phase) Opened) (done ++ o ∷ []) (host_before (vps_before plan phase) plan phase)) =
     stand_join hosts count (host_is (vps_before plan phase) Opened) done o (host_before (vps_before plan phase) plan phase) (host_before (vps_before plan phase) plan phase) meet.stand fact.fits.named mine_known fact.done_apart (λ q off. refl) in
-    let all_known = join_all (λ p. p.relid ≤ count) done o (done_known plan phase place done o left planned at) mine_known in
+    let all_known = join_all (λ p. p.relid ≤ count) done o (all_weaker (λ p. p.relid ≤ offered_by plan phase done (o ∷ left)) (λ p. p.relid ≤ count) (λ p l. omega (arith, l)) done (done_known plan phase place done o left planned at)) mine_known in
     let fresh : (q : ℕ) → count < q → q ≤ count + length subs → marked (host_is (vps_before plan phase) Opened) (done ++ o ∷ []) (host_before (vps_before plan phase) plan phase) q ≡ offered_life = λ q above few.
     marked_apart (host_is (vps_before plan phase) Opened) (done ++ o ∷ []) (host_before (vps_before plan phase) plan phase) q (all_weaker (λ p. p.relid ≤ count) (λ p. p.relid ≢ q) (λ p l e. absurd (omega (arith, l, e, above))) (done ++ o ∷ []) all_known)
     ∙ unopened plan (host_ends (vps_before plan phase)) offered_life phase q planned (let less = at.in_plan in omega (arith, less)) (omega (arith, above)) in
     let more : Stand (with_subs open_now subs) (offered_by plan phase (done ++ o ∷ []) left) (marked (host_is (vps_before plan phase) Opened) (done ++ o ∷ []) (host_before (vps_before plan phase) plan phase)) =
-    subst (λ n. Stand (with_subs open_now subs) n (marked (host_is (vps_before plan phase) Opened) (done ++ o ∷ []) (host_before (vps_before plan phase) plan phase))) (count_next plan phase done o left) (stand_add open_now count (length subs) (marked (host_is (vps_before plan phase) Opened) (done ++ o ∷ []) (host_before (vps_before plan phase) plan phase)) offered_life joined fresh) in
+    subst (λ n. Stand (with_subs open_now subs) n (marked (host_is (vps_before plan phase) Opened) (done ++ o ∷ []) (host_before (vps_before plan phase) plan phase))) (count_next plan phase done o left fact.fits.alone) (stand_add open_now count (length subs) (marked (host_is (vps_before plan phase) Opened) (done ++ o ∷ []) (host_before (vps_before plan phase) plan phase)) offered_life joined fresh) in
     let onward = next_wait plan logs part v hosts (with_subs open_now subs) (live_ones (handles (done ++ o ∷ []))) phase (place + 1) (done ++ o ∷ []) left (AwaitsOpen place) planned at.in_plan (done_more plan phase place done o left at) (place_more plan phase place done o left at) (record { agreed = meet.agreed; stand = more }) in
     record {
       turn = turn;

@@ -1,10 +1,9 @@
 -- Once all channels of a phase are open, the guest moves those to other processors that the phase moves, and the host answers; and how a side goes on with the
 -- opening at a place of a phase that starts, or with that.
-use Rattle.std.proofs.Common.{◌≡◌, ◌≢◌, ◌∙◌, ℕ, suc, ◌+◌, ◌-◌, ◌<◌, ◌≤◌, Bool, true, false, List, [], ◌∷◌, ◌++◌, length, map, drop, filter, slice_get, slice_set, Option, Some, cond, if◌then◌else◌, Ok, refl, sym, ap, subst, append_assoc, arith}
+use Rattle.std.proofs.Common.{◌≡◌, ◌≢◌, ◌∙◌, ℕ, suc, ◌+◌, ◌-◌, ◌<◌, ◌≤◌, Bool, true, false, List, [], ◌∷◌, ◌++◌, length, map, drop, filter, slice_get, slice_set, Option, Some, None, is_some, cond, if◌then◌else◌, Ok, refl, sym, ap, subst, append_assoc, arith}
 use Rattle.std.specs.List.{AllByRecursion, flat_map, position_from}
 use Rattle.std.proofs.lemmas.Bool.{eq-eqb}
 use Rattle.std.proofs.lemmas.List.{append-nil}
-use Rattle.std.proofs.lemmas.List.Concat.{flat_map-cons}
 use Rattle.std.proofs.lemmas.List.FromFn.{length-range_with_len}
 use Rattle.contact.specs.declared.version.Version.{Version}
 use Rattle.contact.specs.declared.part.Part.{Part}
@@ -25,26 +24,27 @@ use Rattle.control_model.specs.declared.change.Change.TheVariants.{Now}
 use Rattle.control_model.specs.declared.guest_wait.GuestWait.{GuestWait}
 use Rattle.control_model.specs.declared.guest_wait.GuestWait.TheVariants.{Nothing, Modified}
 use Rattle.control_model.specs.declared.host_wait.HostWait.{HostWait}
+use Rattle.control_model.specs.declared.host_wait.HostWait.TheVariants.{List as AwaitsList}
 use Rattle.control_model.specs.declared.guest_turn.GuestTurn.{GuestTurn}
 use Rattle.control_model.specs.Plan.{BusPlan, IsOpening, IsPlan, opening_at, list_pages, phase_of, vp_for}
 use Rattle.control_model.specs.Channels.{by_relid, lived, put_moved, move_at, move_all, changed}
-use Rattle.control_model.specs.Messages.{modify, modified, modify_one, pages_from, open_on, Sends}
-use Rattle.control_model.specs.Said.{moved, guest_opens, host_opens_all, guest_moves, host_moves}
-use Rattle.control_model.specs.Guest.{GuestSeen, is_opened, is_modifying, in_state, channel_then, then_in, waits_answer, move_of, moves_with, offered_channel, lists_next}
-use Rattle.control_model.specs.Host.{waits_move, waits_list}
-use Rattle.control_model.specs.Stand.{At, offered_before, offered_by, marked, vps_before, guest_is, host_is, guest_ends, guest_before, host_before, Stand, Agreed, Meet, handles}
-use Rattle.control_model.specs.GuestAt.{opens_listed, start_to_say, start_to_hear, moves_to_say, moves_to_hear, GuestStands}
-use Rattle.control_model.specs.GuestAt.GuestStands.{lists as GuestLists, moves as GuestMoves, started as GuestStarted}
+use Rattle.control_model.specs.Messages.{modify, modified, modify_one, pages_from, Sends}
+use Rattle.control_model.specs.Said.{dials, moved, guest_opens, host_opens_all, guest_moves, host_moves}
+use Rattle.control_model.specs.Guest.{GuestSeen, is_opened, is_modifying, in_state, channel_then, then_in, waits_answer, move_of, moves_with, offered_channel, dials_one, lists_next}
+use Rattle.control_model.specs.Host.{waits_move, waits_one, waits_list}
+use Rattle.control_model.specs.Stand.{At, offered_before, offered_by, offered_for, count_dialed, marked, vps_before, guest_is, host_is, guest_ends, guest_before, host_before, Stand, Agreed, Meet, handles}
+use Rattle.control_model.specs.GuestAt.{lists_dialed, opens_listed, answers_list, start_to_say, start_to_hear, moves_to_say, moves_to_hear, GuestStands}
+use Rattle.control_model.specs.GuestAt.GuestStands.{dials as GuestDials, lists as GuestLists, moves as GuestMoves, started as GuestStarted}
 use Rattle.control_model.specs.HostAt.{host_start_to_say, host_start_to_hear, host_moves_to_say, host_moves_to_hear, live_ones, HostStands}
-use Rattle.control_model.specs.HostAt.HostStands.{lists as HostLists, moves as HostMoves, started as HostStarted}
+use Rattle.control_model.specs.HostAt.HostStands.{connects as HostConnects, lists as HostLists, moves as HostMoves, started as HostStarted}
 use Rattle.control_laws.proofs.Logs.{Logs, a_guest, a_host}
 use Rattle.control_laws.proofs.Marks.{by_place, differ, get_set, get_set_other, at_relid, marked_apart, marked_like, marked_here, marked_there, stand_now, stand_like}
 use Rattle.control_laws.proofs.Closing.{Distinct}
 use Rattle.control_laws.proofs.Plans.{phase_has, facts, opening_from}
 use Rattle.control_laws.proofs.Vps.{marked_alike, before_alike, guest_alike, moved_all, moved_distinct, movers_are, answers_are, own_marked, marked_again, marked_over, distinct_front, position_at, position_none, guest_says, host_says, guest_rest, host_rest, host_says_none}
-use Rattle.control_laws.proofs.Next.{all_open, Turned, heard_so, pieces_of, HasFirst, cut_first}
+use Rattle.control_laws.proofs.Next.{all_open, Turned, heard_so, pieces_by, pieces_of, HasFirst, cut_first}
 use Rattle.control_laws.proofs.Handles.{all_front}
-use Rattle.control_laws.proofs.Saying.{left_at, opens_more}
+use Rattle.control_laws.proofs.Saying.{left_at, dials_more, opens_more, answers_plain}
 
 both : (P Q R : Opening → Type 0) → ((o : Opening) → P o → Q o → R o) → (os : List Opening) → AllByRecursion P os → AllByRecursion Q os → AllByRecursion R os
 both P Q R f [] p q = tt
@@ -198,6 +198,33 @@ moves_on plan v guests phase awaits heard true (o ∷ ms) planned in_plan agreed
       heard = λ later. refl;
     }
 
+-- the guest sends the next page list; but where it is that of a service's channel, the guest asks for that first
+lists_one : (plan : BusPlan) (v : Version) (guests : List Channel) (phase place : ℕ) (done : List Opening) (o : Opening) (left : List Opening) (awaits : GuestWait) (heard : Change) (dialed : Option ℕ) → At plan phase place done o left → o.dialed ≡ dialed
+    → Meet plan v (changed guests heard) (offered_by plan phase done (o ∷ left)) (marked (guest_is (vps_before plan phase) Opened) done (guest_before (vps_before plan phase) plan phase))
+    → ListsOn plan guests phase (o ∷ left) (dials_one (heard_so awaits v heard) place o dialed)
+lists_one plan v guests phase place done o left awaits heard None at d meet =
+    let os : List Opening = phase_of plan phase in
+    let back = sym (left_at plan phase place done (o ∷ left) at.phase_is at.place_is) in
+    let none = ap count_dialed d in
+    let count : offered_by plan phase done (o ∷ left) ≡ offered_for plan phase done o left = omega (arith, none) in
+    record {
+      goes = GuestLists v (changed guests heard) phase place done o left at (subst (λ n. Meet plan v (changed guests heard) n (marked (guest_is (vps_before plan phase) Opened) done (guest_before (vps_before plan phase) plan phase))) count meet);
+      says = λ sent later sends.
+          let whole = sym (cuts_so o.relid o.gpadl (pages_from o) sent sends) in
+          opens_more o left (guest_moves plan os ++ later) d ∙ (λ i. whole i ++ (opens_listed (back i) ++ (guest_moves plan os ++ later)));
+      heard = λ later. answers_plain o left (host_moves plan os ++ later) d ∙ ap (λ xs. answers_list xs ++ (host_moves plan os ++ later)) back;
+    }
+lists_one plan v guests phase place done o left awaits heard (Some port) at d meet =
+    let os : List Opening = phase_of plan phase in
+    let back = sym (left_at plan phase place done (o ∷ left) at.phase_is at.place_is) in
+    record {
+      goes = GuestDials v (changed guests heard) phase place done o left at (ap is_some d) meet;
+      says = λ sent later sends.
+          let asks : dials o.dialed ≡ sent = ap dials d ∙ sym sends in
+          dials_more o left (guest_moves plan os ++ later) ∙ (λ i. asks i ++ (lists_dialed (back i) ++ (guest_moves plan os ++ later)));
+      heard = λ later. ap (λ xs. host_opens_all xs ++ (host_moves plan os ++ later)) back;
+    }
+
 -- the guest goes on
 lists_from : (plan : BusPlan) (logs : Logs) (before : Option Part) (v : Version) (guests : List Channel) (phase place : ℕ) (done left : List Opening) (waited awaits : GuestWait) (heard : Change) → IsPlan plan → phase < length plan.phases
     → phase_of plan phase ≡ done ++ left → place ≡ length done → Meet plan v (changed guests heard) (offered_by plan phase done left) (marked (guest_is (vps_before plan phase) Opened) done (guest_before (vps_before plan phase) plan phase))
@@ -221,15 +248,7 @@ lists_from plan logs before v guests phase place done [] waited awaits heard pla
     (subst (λ ms. ListsOn plan guests phase [] (turn ms)) (sym (pass (then_in g heard is_opened) (moved plan os) opened))
     (moves_on plan v guests phase awaits heard (answers_modify v.0) (moved plan os) planned in_plan meet.agreed stand refl refl))
 lists_from plan logs before v guests phase place done (o ∷ left) waited awaits heard planned in_plan is at meet looks =
-    let os : List Opening = phase_of plan phase in
-    let back = sym (left_at plan phase place done (o ∷ left) is at) in
-    record {
-      goes = GuestLists v (changed guests heard) phase place done o left (record { in_plan = in_plan; phase_is = is; place_is = at }) meet;
-      says = λ sent later sends.
-          let whole = sym (cuts_so o.relid o.gpadl (pages_from o) sent sends) in
-          opens_more o left (guest_moves plan os ++ later) ∙ (λ i. whole i ++ (opens_listed (back i) ++ (guest_moves plan os ++ later)));
-      heard = λ later. ap (λ xs. host_opens_all xs ++ (host_moves plan os ++ later)) back;
-    }
+    lists_one plan v guests phase place done o left awaits heard o.dialed (record { in_plan = in_plan; phase_is = is; place_is = at }) refl meet
 
 pub next_list : (plan : BusPlan) (logs : Logs) (before : Option Part) (v : Version) (guests : List Channel) (phase place : ℕ) (done left : List Opening) (waited awaits : GuestWait) (heard : Change) → IsPlan plan → phase < length plan.phases
     → phase_of plan phase ≡ done ++ left → place ≡ length done → Meet plan v (changed guests heard) (offered_by plan phase done left) (marked (guest_is (vps_before plan phase) Opened) done (guest_before (vps_before plan phase) plan phase))
@@ -272,6 +291,35 @@ pub record WaitsOn (plan : BusPlan) (v : Version) (hosts : List ChanState) (phas
   pub says : (later : List Msg) → host_opens_all left ++ (host_moves plan (phase_of plan phase) ++ later) ≡ host_start_to_say (phase_of plan phase) waits ++ (host_moves_to_say plan (phase_of plan phase) waits ++ later)
   pub hears : (later : List Msg) → flat_map guest_opens left ++ (guest_moves plan (phase_of plan phase) ++ later) ≡ host_start_to_hear (phase_of plan phase) waits pieces ++ (host_moves_to_hear plan (phase_of plan phase) waits ++ later)
 
+-- it waits for the next page list; but where that is of a service's channel, for the guest to ask for it
+waits_at : (plan : BusPlan) (v : Version) (hosts : List ChanState) (phase place : ℕ) (done : List Opening) (o : Opening) (left : List Opening) (dialed : Option ℕ) → IsPlan plan → At plan phase place done o left → o.dialed ≡ dialed
+    → Meet plan v hosts (offered_by plan phase done (o ∷ left)) (marked (host_is (vps_before plan phase) Opened) done (host_before (vps_before plan phase) plan phase)) → WaitsOn plan v hosts phase done (o ∷ left) (waits_one place dialed) (pieces_by o dialed)
+waits_at plan v hosts phase place done o left None planned at d meet =
+    let os : List Opening = phase_of plan phase in
+    let fact = facts plan phase place done o left planned at in
+    let few = fact.fits.some_pages in
+    let long = length-range_with_len o.first_page (list_pages o.ring_pages) in
+    let list : List Msg = cut o.relid o.gpadl (pages_from o) in
+    let whole : HasFirst list = cut_first o.relid o.gpadl (pages_from o) (omega (arith, few, long)) in
+    let back = sym (left_at plan phase place done (o ∷ left) at.phase_is at.place_is) in
+    let none = ap count_dialed d in
+    let count : offered_by plan phase done (o ∷ left) ≡ offered_for plan phase done o left = omega (arith, none) in
+    record {
+      goes = subst (HostStands plan (Some (PhaseStart phase)) (AwaitsList place) (Some v) hosts (live_ones (handles done)) []) (sym whole.is)
+          (HostLists v hosts phase place done o left (live_ones (handles done)) whole.first whole.rest at
+          (subst (λ n. Meet plan v hosts n (marked (host_is (vps_before plan phase) Opened) done (host_before (vps_before plan phase) plan phase))) count meet) (record { came = []; whole = whole.is; lists_are = refl }));
+      says = λ later. answers_plain o left (host_moves plan os ++ later) d ∙ ap (λ xs. answers_list xs ++ (host_moves plan os ++ later)) back;
+      hears = λ later. opens_more o left (guest_moves plan os ++ later) d ∙ sym (append_assoc list (opens_listed (o ∷ left)) (guest_moves plan os ++ later)) ∙ ap (λ xs. (list ++ opens_listed xs) ++ (guest_moves plan os ++ later)) back;
+    }
+waits_at plan v hosts phase place done o left (Some port) planned at d meet =
+    let os : List Opening = phase_of plan phase in
+    let back = sym (left_at plan phase place done (o ∷ left) at.phase_is at.place_is) in
+    record {
+      goes = HostConnects v hosts phase place done o left at (ap is_some d) meet;
+      says = λ later. ap (λ xs. host_opens_all xs ++ (host_moves plan os ++ later)) back;
+      hears = λ later. ap (λ xs. flat_map guest_opens xs ++ (guest_moves plan os ++ later)) back;
+    }
+
 waits_from : (plan : BusPlan) (logs : Logs) (before : Option Part) (v : Version) (known hosts : List ChanState) (lists : Assembly) (phase place : ℕ) (done left : List Opening) (waited : HostWait) → IsPlan plan → phase < length plan.phases
     → phase_of plan phase ≡ done ++ left → place ≡ length done → Meet plan v hosts (offered_by plan phase done left) (marked (host_is (vps_before plan phase) Opened) done (host_before (vps_before plan phase) plan phase))
     → WaitsOn plan v hosts phase done left (waits_list (a_host plan logs before waited (Some v) known lists) (Some (PhaseStart phase)) place (slice_get left 0)) (pieces_of (slice_get left 0))
@@ -288,20 +336,7 @@ waits_from plan logs before v known hosts lists phase place done [] waited plann
       hears = there.hears;
     })
 waits_from plan logs before v known hosts lists phase place done (o ∷ left) waited planned in_plan is at meet =
-    let os : List Opening = phase_of plan phase in
-    let here : At plan phase place done o left = record { in_plan = in_plan; phase_is = is; place_is = at } in
-    let fact = facts plan phase place done o left planned here in
-    let few = fact.fits.some_pages in
-    let count = length-range_with_len o.first_page (list_pages o.ring_pages) in
-    let list : List Msg = cut o.relid o.gpadl (pages_from o) in
-    let whole : HasFirst list = cut_first o.relid o.gpadl (pages_from o) (omega (arith, few, count)) in
-    let back = sym (left_at plan phase place done (o ∷ left) is at) in
-    record {
-      goes = subst (HostStands plan (Some (PhaseStart phase)) (waits_list (a_host plan logs before waited (Some v) known lists) (Some (PhaseStart phase)) place (Some o)) (Some v) hosts (live_ones (handles done)) []) (sym whole.is)
-          (HostLists v hosts phase place done o left (live_ones (handles done)) whole.first whole.rest here meet (record { came = []; whole = whole.is; lists_are = refl }));
-      says = λ later. ap (λ xs. host_opens_all xs ++ (host_moves plan os ++ later)) back;
-      hears = λ later. ap (λ xs. xs ++ (guest_moves plan os ++ later)) (flat_map-cons guest_opens o left ∙ append_assoc list (open_on o ∷ []) (flat_map guest_opens left) ∙ ap (λ xs. list ++ opens_listed xs) back);
-    }
+    waits_at plan v hosts phase place done o left o.dialed planned (record { in_plan = in_plan; phase_is = is; place_is = at }) refl meet
 
 pub next_wait : (plan : BusPlan) (logs : Logs) (before : Option Part) (v : Version) (known hosts : List ChanState) (lists : Assembly) (phase place : ℕ) (done left : List Opening) (waited : HostWait) → IsPlan plan → phase < length plan.phases
     → phase_of plan phase ≡ done ++ left → place ≡ length done → Meet plan v hosts (offered_by plan phase done left) (marked (host_is (vps_before plan phase) Opened) done (host_before (vps_before plan phase) plan phase))

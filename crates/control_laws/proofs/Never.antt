@@ -1,5 +1,5 @@
 -- What a side never says, and the other one never takes.
-use Rattle.std.proofs.Common.{◌≢◌, ℕ, zero, suc, ◌+◌, Bool, true, false, List, [], ◌∷◌, ◌++◌, length, map, drop, if◌then◌else◌, refl, sym, subst}
+use Rattle.std.proofs.Common.{◌≢◌, ℕ, zero, suc, ◌+◌, Bool, true, false, List, [], ◌∷◌, ◌++◌, length, map, drop, Option, Some, None, if◌then◌else◌, refl, sym, subst}
 use Rattle.std.specs.List.{AllByRecursion, flat_map}
 use Rattle.std.proofs.lemmas.List.Concat.{flat_map-cons}
 use Rattle.contact.specs.declared.kind.Kind.{Kind}
@@ -8,9 +8,9 @@ use Rattle.contact.specs.Classes.{offers_from}
 use Rattle.gpadl.specs.Cut.{bodies, cut}
 use Rattle.vmbus_msg.specs.declared.msg.Msg.{Msg}
 use Rattle.control_model.specs.declared.opening.Opening.{Opening}
-use Rattle.control_model.specs.Messages.{propose, delivered, request, pages_from, offer_sub, open_on, modify, modified, close, teardown, torndown, rescind, release, farewell, farewell_taken}
+use Rattle.control_model.specs.Messages.{propose, delivered, request, pages_from, created, opened, offer_sub, open_on, modify, modified, close, teardown, torndown, rescind, release, farewell, farewell_taken}
 use Rattle.control_model.specs.Plan.{BusPlan, is_sub, subs_next, in_closing_order, vp_for}
-use Rattle.control_model.specs.Said.{agreed, answer_to, moved, guest_moves, host_moves, guest_opens, host_opens, host_opens_all, guest_closes, host_closes, only_sub, guest_in_phase, host_in_phase, from_3_0}
+use Rattle.control_model.specs.Said.{agreed, answer_to, moved, guest_moves, host_moves, dials, dial_offers, guest_lists, guest_opens, host_opens, host_opens_all, guest_closes, host_closes, only_sub, guest_in_phase, host_in_phase, from_3_0}
 use Rattle.control_laws.specs.Sides.{GuestIsCut, HostIsCut}
 
 abbrev Never : Msg → List Msg → Type 0
@@ -37,11 +37,15 @@ offers : (relid : ℕ) (kinds : List Kind) → Never farewell (offers_from relid
 offers relid [] = tt
 offers relid (kind ∷ kinds) = ((λ e. absurd (cc)), offers (relid + 1) kinds)
 
+offers_one : (relid : ℕ) (dialed : Option ℕ) → Never farewell (dial_offers relid dialed)
+offers_one relid None = tt
+offers_one relid (Some port) = ((λ e. absurd (cc)), tt)
+
 opens : (os : List Opening) → Never farewell (host_opens_all os)
 opens [] = tt
 opens (o ∷ os) =
     let more : List Msg = map offer_sub (subs_next (o ∷ os)) in
-    both farewell (host_opens o) (more ++ host_opens_all os) ((λ e. absurd (cc)), ((λ e. absurd (cc)), tt)) (both farewell more (host_opens_all os) (mapped farewell offer_sub (subs_next (o ∷ os)) (λ p e. absurd (cc))) (opens os))
+    both farewell (host_opens o) (more ++ host_opens_all os) (both farewell (dial_offers o.relid o.dialed) (created o.relid o.gpadl ∷ opened o.relid o.relid ∷ []) (offers_one o.relid o.dialed) ((λ e. absurd (cc)), ((λ e. absurd (cc)), tt))) (both farewell more (host_opens_all os) (mapped farewell offer_sub (subs_next (o ∷ os)) (λ p e. absurd (cc))) (opens os))
 
 sub_closes : (m n : Msg) (o : Opening) → n ≢ m → Never m (only_sub o n)
 sub_closes m n o off = only_if m (is_sub o) (n ∷ []) [] (off, tt) tt
@@ -78,11 +82,15 @@ no_cut : (relid handle : ℕ) (pages : List ℕ) → Never farewell_taken (cut r
 no_cut relid handle [] = tt
 no_cut relid handle (page ∷ pages) = ((λ e. absurd (cc)), no_body (length pages) handle 0 (drop 26 (page ∷ pages)))
 
+no_dial : (dialed : Option ℕ) → Never farewell_taken (dials dialed)
+no_dial None = tt
+no_dial (Some port) = ((λ e. absurd (cc)), tt)
+
 guest_phase : (plan : BusPlan) (os : List Opening) → Never farewell_taken (guest_in_phase plan os)
 guest_phase plan os =
     let closes : List Msg = flat_map guest_closes (in_closing_order os) in
     both farewell_taken (flat_map guest_opens os) (guest_moves plan os ++ closes)
-    (each farewell_taken guest_opens os (λ o. both farewell_taken (cut o.relid o.gpadl (pages_from o)) (open_on o ∷ []) (no_cut o.relid o.gpadl (pages_from o)) ((λ e. absurd (cc)), tt)))
+    (each farewell_taken guest_opens os (λ o. both farewell_taken (dials o.dialed) (guest_lists o) (no_dial o.dialed) (both farewell_taken (cut o.relid o.gpadl (pages_from o)) (open_on o ∷ []) (no_cut o.relid o.gpadl (pages_from o)) ((λ e. absurd (cc)), tt))))
     (both farewell_taken (guest_moves plan os) closes (mapped farewell_taken (λ (o : Opening). modify o.relid (vp_for o)) (moved plan os) (λ o e. absurd (cc)))
     (each farewell_taken guest_closes (in_closing_order os) (λ o. only_if farewell_taken o.rescinded (release o.relid ∷ []) (close o.relid ∷ teardown o ∷ only_sub o (release o.relid)) ((λ e. absurd (cc)), tt) ((λ e. absurd (cc)), ((λ e. absurd (cc)), sub_closes farewell_taken (release o.relid) o (λ e. absurd (cc)))))))
 

@@ -11,7 +11,7 @@ use Rattle.control_model.specs.declared.change.Change.TheVariants.{Same}
 use Rattle.control_model.specs.declared.burst.Burst.TheVariants.{Empty}
 use Rattle.control_model.specs.declared.guest_wait.GuestWait.{GuestWait}
 use Rattle.control_model.specs.declared.guest_turn.GuestTurn.{GuestTurn}
-use Rattle.control_model.specs.Plan.{BusPlan, first_subs, subs_in, phase_of}
+use Rattle.control_model.specs.Plan.{BusPlan, first_subs, laters, phase_of}
 use Rattle.control_model.specs.Channels.{changed}
 use Rattle.control_model.specs.Messages.{pages_from}
 use Rattle.control_model.specs.Stand.{offered_before, offered_by, marked, Stand}
@@ -23,7 +23,7 @@ pub all_open : {X : Type 0} (plan : BusPlan) (channels : List X) (so : Opening �
     → Stand channels (offered_by plan phase done []) (marked so done base) → Stand channels (offered_before plan (suc phase)) (marked so (phase_of plan phase) base)
 all_open plan channels so phase done base in_plan full stand =
     let more = offered_more plan phase in_plan in
-    let same = ap (λ os. length (subs_in os)) full in
+    let same = ap (λ os. length (laters os)) full in
     let none : length (first_subs []) ≡ 0 = refl in
     let count : offered_by plan phase done [] ≡ offered_before plan (suc phase) = omega (arith, more, same, none) in
     subst (λ n. Stand channels n (marked so (phase_of plan phase) base)) count (subst (λ os. Stand channels (offered_by plan phase done []) (marked so os base)) (sym full) stand)
@@ -36,10 +36,14 @@ Turned plan part channels turn = GuestStands plan part turn.awaits turn.version 
 abbrev pub heard_so : GuestWait → Version → Change → GuestTurn
 heard_so awaits v heard = record { awaits = awaits; version = Some v; heard = heard; wished = Same; burst = Empty }
 
--- the host waits for the page list of an opening, if there is one
+-- the host waits for the page list of an opening, if there is one; but where its channel is that of a service, for the guest to ask for it
+abbrev pub pieces_by : Opening → Option ℕ → List Msg
+pieces_by o None = cut o.relid o.gpadl (pages_from o)
+pieces_by o (Some port) = []
+
 abbrev pub pieces_of : Option Opening → List Msg
 pieces_of None = []
-pieces_of (Some o) = cut o.relid o.gpadl (pages_from o)
+pieces_of (Some o) = pieces_by o o.dialed
 
 pub record HasFirst (ms : List Msg) : Type 0 where
   pub first : Msg

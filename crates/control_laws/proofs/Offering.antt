@@ -1,18 +1,16 @@
 -- Lists of channels that were all offered.
 use Rattle.std.proofs.Common.{◌≡◌, ◌∙◌, ℕ, zero, suc, ◌-◌, ◌<◌, true, List, [], ◌∷◌, ◌++◌, length, map, take, replicate, slice_get, Some, refl, sym, ap, arith}
 use Rattle.std.proofs.lemmas.List.{length-replicate, length-map}
+use Rattle.std.proofs.lemmas.Slice.Eq.{bytes_eq-Decides}
 use Rattle.contact.specs.declared.kind.Kind.{Kind}
-use Rattle.contact.specs.declared.kind.Kind.TheVariants.{Beat, Down, Disk, Net}
-use Rattle.control_model.specs.Plan.{BusPlan, subs_in, all_openings}
+use Rattle.contact.specs.Classes.{class_id}
+use Rattle.control_model.specs.Plan.{BusPlan, laters, all_openings}
 use Rattle.control_model.specs.Channels.{same_kind}
 use Rattle.control_model.specs.Stand.{offered_before, Stand}
 use Rattle.control_laws.proofs.Marks.{at_relid}
 
 pub kind_same : (kind : Kind) → same_kind kind kind ≡ true
-kind_same Beat = refl
-kind_same Down = refl
-kind_same Disk = refl
-kind_same Net = refl
+kind_same kind = (bytes_eq-Decides (class_id kind) (class_id kind)).1 refl
 
 pub one_more : {X : Type 0} (n : ℕ) (x : X) → replicate n x ++ x ∷ [] ≡ replicate (suc n) x
 one_more zero x = refl
@@ -28,9 +26,9 @@ each_mapped [] i x less = absurd (omega (arith, less))
 each_mapped (y ∷ ys) zero x less = refl
 each_mapped (y ∷ ys) (suc i) x less = each_mapped ys i x (omega (arith, less))
 
--- before the first phase no sub-channel is offered
+-- before the first phase no channel is offered but those of the devices
 pub first_count : (plan : BusPlan) → offered_before plan 0 ≡ length plan.kinds
-first_count plan = let none : length (subs_in (all_openings (take 0 plan.phases))) ≡ 0 = refl in omega (arith, none)
+first_count plan = let none : length (laters (all_openings (take 0 plan.phases))) ≡ 0 = refl in omega (arith, none)
 
 -- as many channels as there are devices, all the same
 pub all_alike : {X : Type 0} (plan : BusPlan) (n : ℕ) (x : X) → n ≡ length plan.kinds → Stand (replicate n x) (offered_before plan 0) (λ relid. x)

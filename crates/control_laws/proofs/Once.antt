@@ -1,5 +1,5 @@
--- A channel that is given back at the end of a phase is taken back once, and given back once; a sub-channel is offered once.
-use Rattle.std.proofs.Common.{◌≡◌, ◌≢◌, ◌∙◌, ℕ, zero, suc, ◌+◌, ◌<◌, ◌≤◌, ◌==◌, ◌&&◌, ◌||◌, nat_lt, Bool, true, false, cond, List, [], ◌∷◌, ◌++◌, filter, length, map, drop, slice_index_or, Some, if◌then◌else◌, refl, sym, ap, subst, arith}
+-- A channel that is given back at the end of a phase is taken back once, and given back once; one that is offered later is offered once.
+use Rattle.std.proofs.Common.{◌≡◌, ◌≢◌, ◌∙◌, ℕ, zero, suc, ◌+◌, ◌<◌, ◌≤◌, ◌==◌, ◌&&◌, ◌||◌, nat_lt, Bool, true, false, cond, List, [], ◌∷◌, ◌++◌, filter, length, map, drop, slice_index_or, Option, Some, None, is_some, if◌then◌else◌, refl, sym, ap, subst, arith}
 use Rattle.std.specs.List.{AllByRecursion, flat_map}
 use Rattle.std.proofs.lemmas.Bool.{eqb-true}
 use Rattle.std.proofs.lemmas.Bool.Decides.{nat_tests}
@@ -13,16 +13,16 @@ use Rattle.contact.specs.Classes.{offer, offers_from}
 use Rattle.vmbus_msg.specs.declared.msg.Msg.{Msg}
 use Rattle.gpadl.specs.Cut.{bodies, cut}
 use Rattle.control_model.specs.declared.opening.Opening.{Opening}
-use Rattle.control_model.specs.Plan.{BusPlan, is_sub, first_subs, subs_next, subs_in, in_closing_order, opening_at, IsPlan, phase_of, closing_of, vp_for}
-use Rattle.control_model.specs.Messages.{propose, request, delivered, pages_from, open_on, modify, modified, offer_sub, close, teardown, torndown, rescind, release, farewell, farewell_taken}
-use Rattle.control_model.specs.Said.{agreed, answer_to, moved, guest_moves, host_moves, guest_contacts, host_contacts, guest_opens, host_opens_all, guest_closes, host_closes, guest_in_phase, host_in_phase, from_3_0, ends_given_back}
+use Rattle.control_model.specs.Plan.{BusPlan, IsOpening, is_sub, is_later, first_subs, subs_next, laters, in_closing_order, opening_at, IsPlan, phase_of, closing_of, vp_for}
+use Rattle.control_model.specs.Messages.{propose, request, delivered, pages_from, created, open_on, opened, modify, modified, offer_sub, offer_service, close, teardown, torndown, rescind, release, farewell, farewell_taken}
+use Rattle.control_model.specs.Said.{agreed, answer_to, moved, guest_moves, host_moves, guest_contacts, host_contacts, dials, dial_offers, guest_lists, guest_opens, host_opens, host_opens_all, guest_closes, host_closes, guest_in_phase, host_in_phase, from_3_0, ends_given_back}
 use Rattle.control_model.specs.Stand.{offered_before, EndsAt}
-use Rattle.control_laws.specs.Laws.{is_rescind_of, is_release_of, is_offer_of, RescindedOnce, SubsOnce}
+use Rattle.control_laws.specs.Laws.{is_rescind_of, is_release_of, is_offer_of, RescindedOnce, SubsOnce, ServicesOnce}
 use Rattle.control_laws.proofs.Marks.{by_test, same, differ}
 use Rattle.control_laws.proofs.Closing.{all_closing, closing_mid}
 use Rattle.control_laws.proofs.Cutting.{all_weaker, mid_all}
-use Rattle.control_laws.proofs.Relids.{phase_relids, offered_grows, subs_before}
-use Rattle.control_laws.proofs.Plans.{cut_at, facts, end_facts, not_given_back}
+use Rattle.control_laws.proofs.Relids.{later_is, sub_later, dialed_later, phase_relids, offered_grows, subs_before}
+use Rattle.control_laws.proofs.Plans.{cut_at, phase_has, facts, end_facts, not_given_back}
 use Rattle.control_laws.proofs.Seats.{starts_first, phase_seated}
 
 and_none : (a : Bool) → (a && false) ≡ false
@@ -171,12 +171,21 @@ no_sub_offer : (relid : ℕ) (os : List Opening) → filter (is_rescind_of relid
 no_sub_offer relid [] = refl
 no_sub_offer relid (o ∷ os) = no_sub_offer relid os
 
+no_dial_offer : (relid r : ℕ) (dialed : Option ℕ) → filter (is_rescind_of relid) (dial_offers r dialed) ≡ []
+no_dial_offer relid r None = refl
+no_dial_offer relid r (Some port) = refl
+
 host_starts : (relid : ℕ) (os : List Opening) → filter (is_rescind_of relid) (host_opens_all os) ≡ []
 host_starts relid [] = refl
 host_starts relid (o ∷ os) =
+    let p : Msg → Bool = is_rescind_of relid in
+    let both : List Msg = created o.relid o.gpadl ∷ opened o.relid o.relid ∷ [] in
+    let rest : List Msg = map offer_sub (subs_next (o ∷ os)) ++ host_opens_all os in
+    let d = no_dial_offer relid o.relid o.dialed in
     let a = no_sub_offer relid (subs_next (o ∷ os)) in
     let b = host_starts relid os in
-    filter-append (is_rescind_of relid) (map offer_sub (subs_next (o ∷ os))) (host_opens_all os) ∙ (λ i. a i ++ b i)
+    filter-append p (host_opens o) rest ∙ ap (λ xs. xs ++ filter p rest) (filter-append p (dial_offers o.relid o.dialed) both) ∙ ap (λ xs. (xs ++ []) ++ filter p rest) d
+    ∙ filter-append p (map offer_sub (subs_next (o ∷ os))) (host_opens_all os) ∙ (λ i. a i ++ b i)
 
 -- of one channel
 it_passes : (r relid : ℕ) (m : ℕ → Msg) → cond (r == relid) (m r ∷ []) [] ≡ cond ((r == relid) && true) (m relid ∷ []) []
@@ -209,10 +218,16 @@ no_cut : (relid r handle : ℕ) (pages : List ℕ) → filter (is_release_of rel
 no_cut relid r handle [] = refl
 no_cut relid r handle (page ∷ pages) = no_body relid (length pages) handle 0 (drop 26 (page ∷ pages))
 
+no_dial : (relid : ℕ) (dialed : Option ℕ) → filter (is_release_of relid) (dials dialed) ≡ []
+no_dial relid None = refl
+no_dial relid (Some port) = refl
+
 guest_starts : (relid : ℕ) (o : Opening) → filter (is_release_of relid) (guest_opens o) ≡ []
 guest_starts relid o =
+    let p : Msg → Bool = is_release_of relid in
+    let d = no_dial relid o.dialed in
     let a = no_cut relid o.relid o.gpadl (pages_from o) in
-    filter-append (is_release_of relid) (cut o.relid o.gpadl (pages_from o)) (open_on o ∷ []) ∙ (λ i. a i ++ [])
+    filter-append p (dials o.dialed) (guest_lists o) ∙ ap (λ xs. xs ++ filter p (guest_lists o)) d ∙ filter-append p (cut o.relid o.gpadl (pages_from o)) (open_on o ∷ []) ∙ (λ i. a i ++ [])
 
 guest_passes : (relid : ℕ) (o : Opening) (b c : Bool) → filter (is_release_of relid) (if b then release o.relid ∷ [] else close o.relid ∷ teardown o ∷ (if c then release o.relid ∷ [] else [])) ≡ cond ((o.relid == relid) && (b || c)) (release relid ∷ []) []
 guest_passes relid o true c = it_passes o.relid relid release
@@ -243,7 +258,7 @@ once_law plan g h phase place o planned over is gone =
     let given : ends_given_back o ≡ true = ap (λ b. b || is_sub o) gone in
     (host_said_once plan phase place o h.posted planned is given over.host_said, guest_said_once plan phase place o g.posted planned is given over.guest_said)
 
--- the host offers a sub-channel: of all that it says only the offers of sub-channels count
+-- the host offers a channel later: of all that it says only the offers of such channels count
 none_before : (relid r : ℕ) (kinds : List Kind) → r + length kinds ≤ relid → filter (is_offer_of relid) (offers_from r kinds) ≡ []
 none_before relid r [] few = refl
 none_before relid r (kind ∷ kinds) few =
@@ -268,97 +283,159 @@ join : (t : Bool) (m : Msg) (xs ys zs : List Msg) → xs ++ ys ≡ zs → cond t
 join true m xs ys zs e = ap (λ ns. m ∷ ns) e
 join false m xs ys zs e = e
 
+join_one : (t : Bool) (m : Msg) (xs ys : List Msg) → xs ≡ ys → cond t (m ∷ []) [] ++ xs ≡ cond t (m ∷ ys) ys
+join_one true m xs ys e = ap (λ ns. m ∷ ns) e
+join_one false m xs ys e = e
+
+-- the offer of a channel that is offered later
+abbrev offer_by : Opening → Option ℕ → Msg
+offer_by o None = offer_sub o
+offer_by o (Some port) = offer_service port o.relid
+
+abbrev offer_of : Opening → Msg
+offer_of o = offer_by o o.dialed
+
+abbrev Alone : Opening → Type 0
+Alone o = is_some o.dialed ≡ true → is_sub o ≡ false
+
 module _ (relid : ℕ) where
   abbrev offers_in : List Opening → List Msg
-  offers_in os = filter (is_offer_of relid) (map offer_sub os)
+  offers_in os = filter (is_offer_of relid) (map offer_of os)
+
+  abbrev offers_subs : List Opening → List Msg
+  offers_subs os = filter (is_offer_of relid) (map offer_sub os)
 
   abbrev offers_all : List Opening → List Msg
   offers_all os = filter (is_offer_of relid) (host_opens_all os)
 
-  offers_one : (o : Opening) (os : List Opening) (b : Bool) → is_sub o ≡ b → offers_in (first_subs os) ++ offers_all os ≡ offers_in (subs_in os) → offers_in (first_subs (o ∷ os)) ++ (offers_in (subs_next (o ∷ os)) ++ offers_all os) ≡ offers_in (subs_in (o ∷ os))
-  offers_one o os true e rest =
-      let a = ap (λ b. offers_in (if b then o ∷ first_subs os else [])) e in
-      let c = ap (λ b. offers_in (if b then [] else first_subs os)) e in
-      let d = ap (λ b. offers_in (cond b (o ∷ subs_in os) (subs_in os))) e in
-      (λ i. a i ++ (c i ++ offers_all os)) ∙ join (o.relid == relid) (offer_sub o) (offers_in (first_subs os)) (offers_all os) (offers_in (subs_in os)) rest ∙ sym d
-  offers_one o os false e rest =
-      let a = ap (λ b. offers_in (if b then o ∷ first_subs os else [])) e in
-      let c = ap (λ b. offers_in (if b then [] else first_subs os)) e in
-      let d = ap (λ b. offers_in (cond b (o ∷ subs_in os) (subs_in os))) e in
-      (λ i. a i ++ (c i ++ offers_all os)) ∙ rest ∙ sym d
+  abbrev dialed_in : Opening → List Msg
+  dialed_in o = filter (is_offer_of relid) (dial_offers o.relid o.dialed)
 
-  offers_so : (os : List Opening) → offers_in (first_subs os) ++ offers_all os ≡ offers_in (subs_in os)
-  offers_so [] = refl
-  offers_so (o ∷ os) =
-      ap (λ xs. offers_in (first_subs (o ∷ os)) ++ xs) (filter-append (is_offer_of relid) (map offer_sub (subs_next (o ∷ os))) (host_opens_all os)) ∙ offers_one o os (is_sub o) refl (offers_so os)
+  by_relid : (o : Opening) (dialed : Option ℕ) → is_offer_of relid (offer_by o dialed) ≡ (o.relid == relid)
+  by_relid o None = refl
+  by_relid o (Some port) = refl
 
-  no_sub_one : (o : Opening) (os : List Opening) (b : Bool) → (b ≡ true → o.relid ≢ relid) → offers_in (subs_in os) ≡ [] → offers_in (cond b (o ∷ subs_in os) (subs_in os)) ≡ []
-  no_sub_one o os true off rest = ap (λ t. cond t (offer_sub o ∷ offers_in (subs_in os)) (offers_in (subs_in os))) (differ o.relid relid (off refl)) ∙ rest
-  no_sub_one o os false off rest = rest
+  more_in : (o : Opening) (os : List Opening) (m : Msg) → offer_of o ≡ m → is_later o ≡ true → offers_in (laters (o ∷ os)) ≡ cond (o.relid == relid) (m ∷ offers_in (laters os)) (offers_in (laters os))
+  more_in o os m is later =
+      ap (λ b. offers_in (cond b (o ∷ laters os) (laters os))) later ∙ ap (λ t. cond t (offer_of o ∷ offers_in (laters os)) (offers_in (laters os))) (by_relid o o.dialed)
+      ∙ ap (λ n. cond (o.relid == relid) (n ∷ offers_in (laters os)) (offers_in (laters os))) is
 
-  no_subs : (os : List Opening) → AllByRecursion (λ q. is_sub q ≡ true → q.relid ≢ relid) os → offers_in (subs_in os) ≡ []
-  no_subs [] all = refl
-  no_subs (o ∷ os) all = no_sub_one o os (is_sub o) all.0 (no_subs os all.1)
+  offers_one : (o : Opening) (os : List Opening) (dialed : Option ℕ) (b : Bool) → o.dialed ≡ dialed → is_sub o ≡ b → Alone o → offers_subs (first_subs os) ++ offers_all os ≡ offers_in (laters os)
+      → offers_subs (first_subs (o ∷ os)) ++ (dialed_in o ++ (offers_subs (subs_next (o ∷ os)) ++ offers_all os)) ≡ offers_in (laters (o ∷ os))
+  offers_one o os (Some port) true is e alone rest = absurd (let wrong : true ≡ false = sym e ∙ alone (ap is_some is) in cc)
+  offers_one o os None true is e alone rest =
+      let a = ap (λ b. offers_subs (if b then o ∷ first_subs os else [])) e in
+      let none = ap (λ d. filter (is_offer_of relid) (dial_offers o.relid d)) is in
+      let c = ap (λ b. offers_subs (if b then [] else first_subs os)) e in
+      (λ i. a i ++ (none i ++ (c i ++ offers_all os))) ∙ join (o.relid == relid) (offer_sub o) (offers_subs (first_subs os)) (offers_all os) (offers_in (laters os)) rest ∙ sym (more_in o os (offer_sub o) (ap (offer_by o) is) (sub_later o e))
+  offers_one o os (Some port) false is e alone rest =
+      let a = ap (λ b. offers_subs (if b then o ∷ first_subs os else [])) e in
+      let one = ap (λ d. filter (is_offer_of relid) (dial_offers o.relid d)) is in
+      let c = ap (λ b. offers_subs (if b then [] else first_subs os)) e in
+      (λ i. a i ++ (one i ++ (c i ++ offers_all os))) ∙ join_one (o.relid == relid) (offer_service port o.relid) (offers_subs (first_subs os) ++ offers_all os) (offers_in (laters os)) rest
+      ∙ sym (more_in o os (offer_service port o.relid) (ap (offer_by o) is) (dialed_later o (ap is_some is)))
+  offers_one o os None false is e alone rest =
+      let a = ap (λ b. offers_subs (if b then o ∷ first_subs os else [])) e in
+      let none = ap (λ d. filter (is_offer_of relid) (dial_offers o.relid d)) is in
+      let c = ap (λ b. offers_subs (if b then [] else first_subs os)) e in
+      let now : is_later o ≡ false = later_is o ∙ (λ i. is_some (is i) || e i) in
+      (λ i. a i ++ (none i ++ (c i ++ offers_all os))) ∙ rest ∙ sym (ap (λ b. offers_in (cond b (o ∷ laters os) (laters os))) now)
 
-  one_sub : (done : List Opening) (o : Opening) (left : List Opening) → o.relid ≡ relid → is_sub o ≡ true → AllByRecursion (λ q. is_sub q ≡ true → q.relid ≢ relid) done → AllByRecursion (λ q. is_sub q ≡ true → q.relid ≢ relid) left
-      → offers_in (subs_in (done ++ o ∷ left)) ≡ offer_sub o ∷ []
-  one_sub done o left is sub before behind =
-      let a = no_subs done before in
-      let c = no_subs left behind in
+  opens_so : (o : Opening) → filter (is_offer_of relid) (host_opens o) ≡ dialed_in o
+  opens_so o = filter-append (is_offer_of relid) (dial_offers o.relid o.dialed) (created o.relid o.gpadl ∷ opened o.relid o.relid ∷ []) ∙ append-nil (dialed_in o)
+
+  offers_so : (os : List Opening) → AllByRecursion Alone os → offers_subs (first_subs os) ++ offers_all os ≡ offers_in (laters os)
+  offers_so [] all = refl
+  offers_so (o ∷ os) all =
+      let rest : List Msg = map offer_sub (subs_next (o ∷ os)) ++ host_opens_all os in
+      let one = opens_so o in
+      let more = filter-append (is_offer_of relid) (map offer_sub (subs_next (o ∷ os))) (host_opens_all os) in
+      ap (λ xs. offers_subs (first_subs (o ∷ os)) ++ xs) (filter-append (is_offer_of relid) (host_opens o) rest ∙ (λ i. one i ++ more i)) ∙ offers_one o os o.dialed (is_sub o) refl refl all.0 (offers_so os all.1)
+
+  none_one : (o : Opening) (os : List Opening) (b : Bool) → (b ≡ true → o.relid ≢ relid) → offers_in (laters os) ≡ [] → offers_in (cond b (o ∷ laters os) (laters os)) ≡ []
+  none_one o os true off rest = ap (λ t. cond t (offer_of o ∷ offers_in (laters os)) (offers_in (laters os))) (by_relid o o.dialed ∙ differ o.relid relid (off refl)) ∙ rest
+  none_one o os false off rest = rest
+
+  none_later : (os : List Opening) → AllByRecursion (λ q. is_later q ≡ true → q.relid ≢ relid) os → offers_in (laters os) ≡ []
+  none_later [] all = refl
+  none_later (o ∷ os) all = none_one o os (is_later o) all.0 (none_later os all.1)
+
+  one_later : (done : List Opening) (o : Opening) (left : List Opening) → o.relid ≡ relid → is_later o ≡ true → AllByRecursion (λ q. is_later q ≡ true → q.relid ≢ relid) done → AllByRecursion (λ q. is_later q ≡ true → q.relid ≢ relid) left
+      → offers_in (laters (done ++ o ∷ left)) ≡ offer_of o ∷ []
+  one_later done o left is later before behind =
+      let a = none_later done before in
+      let c = none_later left behind in
       let here : (o.relid == relid) ≡ true = ap (λ r. o.relid == r) (sym is) ∙ same o.relid in
-      ap offers_in (filter-append is_sub done (o ∷ left)) ∙ ap (filter (is_offer_of relid)) (map-append offer_sub (subs_in done) (subs_in (o ∷ left))) ∙ filter-append (is_offer_of relid) (map offer_sub (subs_in done)) (map offer_sub (subs_in (o ∷ left)))
-      ∙ ap (λ b. offers_in (subs_in done) ++ offers_in (cond b (o ∷ subs_in left) (subs_in left))) sub ∙ ap (λ t. offers_in (subs_in done) ++ cond t (offer_sub o ∷ offers_in (subs_in left)) (offers_in (subs_in left))) here
-      ∙ (λ i. a i ++ (offer_sub o ∷ c i))
+      ap offers_in (filter-append is_later done (o ∷ left)) ∙ ap (filter (is_offer_of relid)) (map-append offer_of (laters done) (laters (o ∷ left))) ∙ filter-append (is_offer_of relid) (map offer_of (laters done)) (map offer_of (laters (o ∷ left)))
+      ∙ ap (λ xs. offers_in (laters done) ++ xs) (more_in o left (offer_of o) refl later) ∙ ap (λ t. offers_in (laters done) ++ cond t (offer_of o ∷ offers_in (laters left)) (offers_in (laters left))) here
+      ∙ (λ i. a i ++ (offer_of o ∷ c i))
 
-  phase_offers : (plan : BusPlan) (j : ℕ) → IsPlan plan → j < length plan.phases → filter (is_offer_of relid) (host_in_phase plan (phase_of plan j)) ≡ offers_in (subs_in (phase_of plan j)) ++ []
+  phase_offers : (plan : BusPlan) (j : ℕ) → IsPlan plan → j < length plan.phases → filter (is_offer_of relid) (host_in_phase plan (phase_of plan j)) ≡ offers_in (laters (phase_of plan j)) ++ []
   phase_offers plan j planned few =
       let os : List Opening = phase_of plan j in
       let none = starts_first os (phase_seated plan j planned few) in
-      let starts : offers_all os ≡ offers_in (subs_in os) = sym (ap (λ xs. offers_in xs ++ offers_all os) none) ∙ offers_so os in
+      let alone = all_weaker IsOpening Alone (λ q fits. fits.alone) os (phase_has plan j planned few).fits in
+      let starts : offers_all os ≡ offers_in (laters os) = sym (ap (λ xs. offers_subs xs ++ offers_all os) none) ∙ offers_so os alone in
       let ends = none_of_each (is_offer_of relid) host_closes (closing_of plan j) (λ q. no_offer relid q q.rescinded (is_sub q)) in
       let moves = host_moves_none (is_offer_of relid) plan os (λ q. refl) in
       filter-append (is_offer_of relid) (host_opens_all os) (host_moves plan os ++ flat_map host_closes (closing_of plan j)) ∙ ap (λ xs. filter (is_offer_of relid) (host_opens_all os) ++ xs) (filter-append (is_offer_of relid) (host_moves plan os) (flat_map host_closes (closing_of plan j)))
       ∙ (λ i. starts i ++ (moves i ++ ends i))
 
--- no other sub-channel has its relid
+-- no other one has its relid
 other_relids : (plan : BusPlan) (phase j : ℕ) (o : Opening) → IsPlan plan → phase < length plan.phases → offered_before plan phase < o.relid → o.relid ≤ offered_before plan (suc phase) → j < length plan.phases → j ≢ phase
-    → AllByRecursion (λ q. is_sub q ≡ true → q.relid ≢ o.relid) (phase_of plan j)
+    → AllByRecursion (λ q. is_later q ≡ true → q.relid ≢ o.relid) (phase_of plan j)
 other_relids plan phase j o planned in_plan low high few off =
-    by_test {P = AllByRecursion (λ q. is_sub q ≡ true → q.relid ≢ o.relid) (phase_of plan j)} (nat_lt j phase)
+    by_test {P = AllByRecursion (λ q. is_later q ≡ true → q.relid ≢ o.relid) (phase_of plan j)} (nat_lt j phase)
     (λ e.
     let less : j < phase = grind (arith, nat_tests, e) in
-    all_weaker (λ q. is_sub q ≡ true → (length plan.kinds < q.relid) × (q.relid ≤ offered_before plan phase)) (λ q. is_sub q ≡ true → q.relid ≢ o.relid)
+    all_weaker (λ q. is_later q ≡ true → (length plan.kinds < q.relid) × (q.relid ≤ offered_before plan phase)) (λ q. is_later q ≡ true → q.relid ≢ o.relid)
     (λ q bounds sub is. let most = (bounds sub).1 in absurd (omega (arith, most, low, is))) (phase_of plan j) (subs_before plan j phase planned less (omega (arith, in_plan))))
     (λ e.
     let more : phase < j = grind (arith, nat_tests, e, off) in
     let up = offered_grows plan (suc phase) j more (omega (arith, few)) in
-    all_weaker (λ p. (is_sub p ≡ false → p.relid ≤ length plan.kinds) × (is_sub p ≡ true → offered_before plan j < p.relid)) (λ q. is_sub q ≡ true → q.relid ≢ o.relid)
+    all_weaker (λ p. (is_later p ≡ false → p.relid ≤ length plan.kinds) × (is_later p ≡ true → offered_before plan j < p.relid)) (λ q. is_later q ≡ true → q.relid ≢ o.relid)
     (λ q fresh sub is. let far = fresh.1 sub in absurd (omega (arith, far, up, high, is))) (phase_of plan j) (phase_relids plan j planned few).fresh)
 
-offered_once : (plan : BusPlan) (phase place : ℕ) (o : Opening) → IsPlan plan → opening_at plan phase place ≡ Some o → is_sub o ≡ true → (length plan.kinds < o.relid) × (filter (is_offer_of o.relid) (flat_map (host_in_phase plan) plan.phases) ≡ offer_sub o ∷ [])
+offered_once : (plan : BusPlan) (phase place : ℕ) (o : Opening) → IsPlan plan → opening_at plan phase place ≡ Some o → is_later o ≡ true → (length plan.kinds < o.relid) × (filter (is_offer_of o.relid) (flat_map (host_in_phase plan) plan.phases) ≡ offer_of o ∷ [])
 offered_once plan phase place o planned is sub =
     let cut = cut_at plan phase place o is in
     let in_plan = cut.at.in_plan in
     let fact = facts plan phase place cut.done o cut.left planned cut.at in
-    let fresh : AllByRecursion (λ p. (is_sub p ≡ false → p.relid ≤ length plan.kinds) × (is_sub p ≡ true → offered_before plan phase < p.relid)) (cut.done ++ o ∷ cut.left) =
-    subst (AllByRecursion (λ p. (is_sub p ≡ false → p.relid ≤ length plan.kinds) × (is_sub p ≡ true → offered_before plan phase < p.relid))) cut.at.phase_is (phase_relids plan phase planned in_plan).fresh in
-    let low = (mid_all (λ p. (is_sub p ≡ false → p.relid ≤ length plan.kinds) × (is_sub p ≡ true → offered_before plan phase < p.relid)) cut.done o cut.left fresh).1 sub in
-    let apart : (os : List Opening) → AllByRecursion (λ p. p.relid ≢ o.relid) os → AllByRecursion (λ q. is_sub q ≡ true → q.relid ≢ o.relid) os = λ os all. all_weaker (λ p. p.relid ≢ o.relid) (λ q. is_sub q ≡ true → q.relid ≢ o.relid) (λ q off it. off) os all in
-    let one = one_sub o.relid cut.done o cut.left refl sub (apart cut.done fact.done_apart) (apart cut.left fact.left_apart) in (
+    let fresh : AllByRecursion (λ p. (is_later p ≡ false → p.relid ≤ length plan.kinds) × (is_later p ≡ true → offered_before plan phase < p.relid)) (cut.done ++ o ∷ cut.left) =
+    subst (AllByRecursion (λ p. (is_later p ≡ false → p.relid ≤ length plan.kinds) × (is_later p ≡ true → offered_before plan phase < p.relid))) cut.at.phase_is (phase_relids plan phase planned in_plan).fresh in
+    let low = (mid_all (λ p. (is_later p ≡ false → p.relid ≤ length plan.kinds) × (is_later p ≡ true → offered_before plan phase < p.relid)) cut.done o cut.left fresh).1 sub in
+    let apart : (os : List Opening) → AllByRecursion (λ p. p.relid ≢ o.relid) os → AllByRecursion (λ q. is_later q ≡ true → q.relid ≢ o.relid) os = λ os all. all_weaker (λ p. p.relid ≢ o.relid) (λ q. is_later q ≡ true → q.relid ≢ o.relid) (λ q off it. off) os all in
+    let one = one_later o.relid cut.done o cut.left refl sub (apart cut.done fact.done_apart) (apart cut.left fact.left_apart) in (
       omega (arith, low),
-      phases_once (is_offer_of o.relid) (host_in_phase plan) (offer_sub o ∷ []) plan.phases phase in_plan
+      phases_once (is_offer_of o.relid) (host_in_phase plan) (offer_of o ∷ []) plan.phases phase in_plan
           (λ j few off.
-          let none = no_subs o.relid (phase_of plan j) (other_relids plan phase j o planned in_plan low fact.known few off) in
+          let none = none_later o.relid (phase_of plan j) (other_relids plan phase j o planned in_plan low fact.known few off) in
           phase_offers o.relid plan j planned few ∙ (λ i. none i ++ []))
-          (phase_offers o.relid plan phase planned in_plan ∙ ap (λ os. offers_in o.relid (subs_in os) ++ []) cut.at.phase_is ∙ (λ i. one i ++ [])),
+          (phase_offers o.relid plan phase planned in_plan ∙ ap (λ os. offers_in o.relid (laters os) ++ []) cut.at.phase_is ∙ (λ i. one i ++ [])),
     )
+
+-- so the filtered list is that of one offer
+said_offer_once : (plan : BusPlan) (phase place : ℕ) (o : Opening) (posted : List Msg) → IsPlan plan → opening_at plan phase place ≡ Some o → is_later o ≡ true → posted ≡ host_contacts plan ++ (flat_map (host_in_phase plan) plan.phases ++ from_3_0 plan (farewell_taken ∷ []))
+    → filter (is_offer_of o.relid) posted ≡ offer_of o ∷ []
+said_offer_once plan phase place o posted planned is later said =
+    let offers = offered_once plan phase place o planned is later in
+    ap (filter (is_offer_of o.relid)) said ∙ between (is_offer_of o.relid) (host_contacts plan) (flat_map (host_in_phase plan) plan.phases) (from_3_0 plan (farewell_taken ∷ [])) (offer_of o ∷ []) (offers_contact o.relid plan offers.0)
+    (if_said (is_offer_of o.relid) farewell_taken _ refl) offers.1
+
+no_service : (o : Opening) (dialed : Option ℕ) → o.dialed ≡ dialed → Alone o → is_sub o ≡ true → offer_of o ≡ offer_sub o
+no_service o None is alone sub = ap (offer_by o) is
+no_service o (Some port) is alone sub = absurd (let wrong : true ≡ false = sym sub ∙ alone (ap is_some is) in cc)
 
 pub subs_once_law : SubsOnce
 subs_once_law plan g h phase place o planned over is sub =
     let given : ends_given_back o ≡ true = ap (λ b. o.rescinded || b) sub ∙ or_true o.rescinded in
-    let offers = offered_once plan phase place o planned is sub in (
-      ap (filter (is_offer_of o.relid)) over.host_said ∙ between (is_offer_of o.relid) (host_contacts plan) (flat_map (host_in_phase plan) plan.phases) (from_3_0 plan (farewell_taken ∷ [])) (offer_sub o ∷ []) (offers_contact o.relid plan offers.0)
-          (if_said (is_offer_of o.relid) farewell_taken _ refl) offers.1,
+    let cut = cut_at plan phase place o is in
+    let fact = facts plan phase place cut.done o cut.left planned cut.at in (
+      said_offer_once plan phase place o h.posted planned is (sub_later o sub) over.host_said ∙ ap (λ m. m ∷ []) (no_service o o.dialed refl fact.fits.alone sub),
       host_said_once plan phase place o h.posted planned is given over.host_said,
       guest_said_once plan phase place o g.posted planned is given over.guest_said,
     )
+
+pub services_once_law : ServicesOnce
+services_once_law plan g h phase place o port planned over is asked =
+    said_offer_once plan phase place o h.posted planned is (dialed_later o (ap is_some asked)) over.host_said ∙ ap (λ d. offer_by o d ∷ []) asked

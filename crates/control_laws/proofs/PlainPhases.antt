@@ -3,10 +3,10 @@ use Rattle.std.proofs.Common.{◌≡◌, ◌∙◌, false, cond, List, [], ◌�
 use Rattle.std.specs.List.{flat_map}
 use Rattle.std.proofs.lemmas.List.Concat.{flat_map-cons}
 use Rattle.control_model.specs.declared.opening.Opening.{Opening}
-use Rattle.control_model.specs.Plan.{is_sub, first_subs, subs_next, subs_in, behind_subs, in_closing_order, all_openings}
+use Rattle.control_model.specs.Plan.{is_sub, first_subs, subs_next, laters, behind_subs, in_closing_order, all_openings}
 use Rattle.control_model.specs.Messages.{offer_sub, close, teardown, torndown, rescind, release}
 use Rattle.control_model.specs.Said.{guest_opens, host_opens, host_opens_all, guest_closes, host_closes, guest_moves, host_moves}
-use Rattle.control_laws.specs.Plain.{NoSubs, guest_closes_one, host_closes_one, PlainGuest, PlainHost, PlainCount}
+use Rattle.control_laws.specs.Plain.{NoSubs, NoLater, guest_closes_one, host_closes_one, PlainGuest, PlainHost, PlainCount}
 
 -- they are closed in the order in which they were opened
 behind_none : (first : Opening) (os : List Opening) → NoSubs os → behind_subs first os ≡ first ∷ os
@@ -60,9 +60,9 @@ plain_host plan os none =
     let closes : flat_map host_closes (in_closing_order os) ≡ flat_map host_closes_one os = ap (flat_map host_closes) (same_order os none) ∙ host_all os none in
     (λ i. opens i ++ (host_moves plan os ++ closes i))
 
-none_in : (os : List Opening) → NoSubs os → subs_in os ≡ []
+none_in : (os : List Opening) → NoLater os → laters os ≡ []
 none_in [] none = refl
-none_in (o ∷ os) none = ap (λ b. cond b (o ∷ subs_in os) (subs_in os)) none.0 ∙ none_in os none.1
+none_in (o ∷ os) none = ap (λ b. cond b (o ∷ laters os) (laters os)) none.0 ∙ none_in os none.1
 
 pub plain_count : PlainCount
 plain_count plan none = let e = ap length (none_in (all_openings plan.phases) none) in omega (arith, e)

@@ -1,17 +1,17 @@
 -- What a plan says of an opening at its place.
-use Rattle.std.proofs.Common.{◌≡◌, ◌≢◌, ◌∙◌, ℕ, zero, suc, ◌+◌, ◌<◌, ◌≤◌, ◌||◌, Bool, true, false, cond, if◌then◌else◌, List, [], ◌∷◌, ◌++◌, length, map, take, drop, get_or, slice_get, slice_index_or, Option, Some, None, All, refl, sym, ap, subst, append_assoc, length-append, arith}
+use Rattle.std.proofs.Common.{◌≡◌, ◌≢◌, ◌∙◌, ℕ, zero, suc, ◌+◌, ◌<◌, ◌≤◌, ◌||◌, is_some, Bool, true, false, cond, if◌then◌else◌, List, [], ◌∷◌, ◌++◌, length, map, take, drop, get_or, slice_get, slice_index_or, Option, Some, None, All, refl, sym, ap, subst, append_assoc, length-append, arith}
 use Rattle.std.specs.List.{AllByRecursion, range_with_len}
 use Rattle.std.proofs.lemmas.List.Elements.{All-get_or}
 use Rattle.control_model.specs.declared.opening.Opening.{Opening}
 use Rattle.control_model.specs.declared.channel.Channel.{Channel}
-use Rattle.control_model.specs.Plan.{BusPlan, is_sub, first_subs, firsts, subs_in, in_closing_order, opening_at, closing_of, closing_at, IsOpening, Rising, Follows, RescindsEnd, all_openings, first_gpadl, list_pages, IsPlan, phase_of}
+use Rattle.control_model.specs.Plan.{BusPlan, is_sub, is_later, first_subs, firsts, laters, in_closing_order, opening_at, closing_of, closing_at, IsOpening, Rising, Follows, RescindsEnd, all_openings, first_gpadl, list_pages, IsPlan, phase_of}
 use Rattle.control_model.specs.Channels.{is_handle}
 use Rattle.control_model.specs.Said.{ends_given_back}
-use Rattle.control_model.specs.Stand.{At, EndsAt, offered_before, offered_by, guest_ends, guest_before}
+use Rattle.control_model.specs.Stand.{At, EndsAt, offered_before, offered_by, offered_for, count_dialed, guest_ends, guest_before}
 use Rattle.control_laws.proofs.Marks.{by_test, differ, marked_has}
 use Rattle.control_laws.proofs.Closing.{all_closing, Distinct, distinct_closing, distinct_mid}
 use Rattle.control_laws.proofs.Cutting.{all_weaker, mid_all, openings_more, openings_cut, by_all}
-use Rattle.control_laws.proofs.Relids.{phase_relids, subs_before, sub_place}
+use Rattle.control_laws.proofs.Relids.{later_is, sub_later, phase_relids, subs_before, sub_place}
 
 -- the first of what follows
 pub get_from : {X : Type 0} (xs ys : List X) → slice_get (xs ++ ys) (length xs) ≡ slice_get ys 0
@@ -179,10 +179,10 @@ not_given_back plan j k planned less few =
     let later = (phase_relids plan k planned few).fresh in
     let low = subs_before plan j k planned less (omega (arith, few)) in
     let ends = earlier_ends plan j k planned less few in
-    both (λ q. AllByRecursion (λ p. p.relid ≡ q.relid → q.rescinded ≡ false) ps) (λ q. is_sub q ≡ true → (length plan.kinds < q.relid) × (q.relid ≤ offered_before plan k)) (λ q. AllByRecursion (λ p. p.relid ≡ q.relid → ends_given_back q ≡ false) ps)
-    (λ q all sub. both (λ p. p.relid ≡ q.relid → q.rescinded ≡ false) (λ p. (is_sub p ≡ false → p.relid ≤ length plan.kinds) × (is_sub p ≡ true → offered_before plan k < p.relid)) (λ p. p.relid ≡ q.relid → ends_given_back q ≡ false)
+    both (λ q. AllByRecursion (λ p. p.relid ≡ q.relid → q.rescinded ≡ false) ps) (λ q. is_later q ≡ true → (length plan.kinds < q.relid) × (q.relid ≤ offered_before plan k)) (λ q. AllByRecursion (λ p. p.relid ≡ q.relid → ends_given_back q ≡ false) ps)
+    (λ q all sub. both (λ p. p.relid ≡ q.relid → q.rescinded ≡ false) (λ p. (is_later p ≡ false → p.relid ≤ length plan.kinds) × (is_later p ≡ true → offered_before plan k < p.relid)) (λ p. p.relid ≡ q.relid → ends_given_back q ≡ false)
     (λ p gone fresh e. or_false q.rescinded (is_sub q) (gone e) (by_test {P = is_sub q ≡ false} (is_sub q)
-    (λ t. let bounds = sub t in let above = bounds.0 in let below = bounds.1 in by_test {P = is_sub q ≡ false} (is_sub p)
+    (λ t. let bounds = sub (sub_later q t) in let above = bounds.0 in let below = bounds.1 in by_test {P = is_sub q ≡ false} (is_later p)
     (λ it. let far = fresh.1 it in absurd (omega (arith, far, below, e)))
     (λ it. let near = fresh.0 it in absurd (omega (arith, near, above, e))))
     (λ t. t))) ps all later) (phase_of plan j) ends low
@@ -266,16 +266,17 @@ pub ends_place : (plan : BusPlan) (phase place : ℕ) (done : List Opening) (o :
 ends_place plan phase place done o left at = omega (arith, at.place_is, length-append done (o ∷ []))
 
 -- the channel of an opening that is left was offered, while its phase starts
-sub_of_first : (o : Opening) (left : List Opening) (b : Bool) → is_sub o ≡ b → length (subs_in (o ∷ [])) ≤ length (first_subs (o ∷ left))
-sub_of_first o left true e = let here = ap (λ b. length (if b then o ∷ first_subs left else [])) e in let one = ap (λ b. length (cond b (o ∷ []) [])) e in omega (arith, here, one)
-sub_of_first o left false e = let one = ap (λ b. length (cond b (o ∷ []) [])) e in omega (arith, one)
+later_of_first : (o : Opening) (left : List Opening) (dialed : Option ℕ) (b : Bool) → o.dialed ≡ dialed → is_sub o ≡ b → is_later o ≡ true → 1 ≤ length (first_subs (o ∷ left)) + count_dialed o.dialed
+later_of_first o left (Some port) b d e later = let n = ap count_dialed d in omega (arith, n)
+later_of_first o left None true d e later = let here = ap (λ b. length (if b then o ∷ first_subs left else [])) e in omega (arith, here)
+later_of_first o left None false d e later = absurd (let wrong : true ≡ false = sym later ∙ later_is o ∙ (λ i. is_some (d i) || e i) in cc)
 
-pub offered_here : (plan : BusPlan) (phase place : ℕ) (done : List Opening) (o : Opening) (left : List Opening) → IsPlan plan → At plan phase place done o left → o.relid ≤ offered_by plan phase done (o ∷ left)
+pub offered_here : (plan : BusPlan) (phase place : ℕ) (done : List Opening) (o : Opening) (left : List Opening) → IsPlan plan → At plan phase place done o left → o.relid ≤ offered_for plan phase done o left
 offered_here plan phase place done o left planned at =
-    let P : List Opening → Type 0 = λ os. map (λ p. p.relid) (subs_in os) ≡ range_with_len (offered_before plan phase + 1) (length (subs_in os)) in
+    let P : List Opening → Type 0 = λ os. map (λ p. p.relid) (laters os) ≡ range_with_len (offered_before plan phase + 1) (length (laters os)) in
     let ids = phase_relids plan phase planned at.in_plan in
     let mine : P (done ++ o ∷ left) = subst P at.phase_is ids.subs_are in
-    let few : AllByRecursion (λ p. is_sub p ≡ false → p.relid ≤ length plan.kinds) (done ++ o ∷ left) = subst (AllByRecursion (λ p. is_sub p ≡ false → p.relid ≤ length plan.kinds)) at.phase_is (all_weaker (λ p. (is_sub p ≡ false → p.relid ≤ length plan.kinds) × (is_sub p ≡ true → offered_before plan phase < p.relid)) (λ p. is_sub p ≡ false → p.relid ≤ length plan.kinds) (λ p f. f.0) (phase_of plan phase) ids.fresh) in
-    by_test {P = o.relid ≤ offered_by plan phase done (o ∷ left)} (is_sub o)
-    (λ e. let spot = sub_place (offered_before plan phase + 1) done o left e mine in let more = sub_of_first o left (is_sub o) refl in let one = ap (λ b. length (cond b (o ∷ []) [])) e in omega (arith, spot, more, one))
-    (λ e. let low = mid_all (λ p. is_sub p ≡ false → p.relid ≤ length plan.kinds) done o left few e in omega (arith, low))
+    let few : AllByRecursion (λ p. is_later p ≡ false → p.relid ≤ length plan.kinds) (done ++ o ∷ left) = subst (AllByRecursion (λ p. is_later p ≡ false → p.relid ≤ length plan.kinds)) at.phase_is (all_weaker (λ p. (is_later p ≡ false → p.relid ≤ length plan.kinds) × (is_later p ≡ true → offered_before plan phase < p.relid)) (λ p. is_later p ≡ false → p.relid ≤ length plan.kinds) (λ p f. f.0) (phase_of plan phase) ids.fresh) in
+    by_test {P = o.relid ≤ offered_for plan phase done o left} (is_later o)
+    (λ e. let spot = sub_place (offered_before plan phase + 1) done o left e mine in let more = later_of_first o left o.dialed (is_sub o) refl refl e in omega (arith, spot, more))
+    (λ e. let low = mid_all (λ p. is_later p ≡ false → p.relid ≤ length plan.kinds) done o left few e in omega (arith, low))

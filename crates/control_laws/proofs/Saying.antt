@@ -1,14 +1,14 @@
 -- What a side has still to say and to hear, as it goes on.
-use Rattle.std.proofs.Common.{◌≡◌, ◌∙◌, ℕ, zero, suc, ◌<◌, Bool, true, false, if◌then◌else◌, List, [], ◌∷◌, ◌++◌, length, drop, slice_index_or, refl, sym, ap, append_assoc, length-append, arith}
+use Rattle.std.proofs.Common.{◌≡◌, ◌∙◌, ℕ, zero, suc, ◌<◌, Bool, true, false, if◌then◌else◌, List, [], ◌∷◌, ◌++◌, length, drop, map, slice_index_or, None, refl, sym, ap, append_assoc, length-append, arith}
 use Rattle.std.specs.List.{flat_map}
 use Rattle.std.proofs.lemmas.List.Concat.{flat_map-cons}
 use Rattle.vmbus_msg.specs.declared.msg.Msg.{Msg}
 use Rattle.gpadl.specs.Cut.{cut}
 use Rattle.control_model.specs.declared.opening.Opening.{Opening}
-use Rattle.control_model.specs.Plan.{BusPlan, in_closing_order, phase_of, closing_of}
-use Rattle.control_model.specs.Messages.{pages_from, open_on, close, teardown, torndown, rescind, release, farewell, farewell_taken}
-use Rattle.control_model.specs.Said.{guest_opens, host_opens_all, guest_closes, host_closes, only_sub, guest_moves, host_moves, guest_in_phase, host_in_phase, from_3_0}
-use Rattle.control_model.specs.GuestAt.{guest_from, host_from, opens_listed, gives_sub, gives_one, takes_one, end_to_say, end_to_hear}
+use Rattle.control_model.specs.Plan.{BusPlan, subs_next, in_closing_order, phase_of, closing_of}
+use Rattle.control_model.specs.Messages.{pages_from, created, open_on, opened, offer_sub, close, teardown, torndown, rescind, release, farewell, farewell_taken}
+use Rattle.control_model.specs.Said.{dials, dial_offers, guest_lists, guest_opens, host_opens_all, guest_closes, host_closes, only_sub, guest_moves, host_moves, guest_in_phase, host_in_phase, from_3_0}
+use Rattle.control_model.specs.GuestAt.{guest_from, host_from, lists_dialed, opens_listed, answers_list, gives_sub, gives_one, takes_one, end_to_say, end_to_hear}
 use Rattle.control_model.specs.HostAt.{host_end_to_say, host_end_to_hear}
 use Rattle.control_model.specs.Stand.{At, EndsAt}
 use Rattle.control_laws.proofs.NextOne.{guest_waits, guest_next_awaits, guest_sends, guest_next_sends, host_waits, host_next_awaits, host_sends, host_next_sends}
@@ -36,10 +36,28 @@ left_behind plan phase place done o left at =
     left_at plan phase (suc place) (done ++ o ∷ []) left (done_more plan phase place done o left at) (omega (arith, at.place_is, length-append done (o ∷ [])))
 
 -- a guest lists the pages of the next channel, if there is one
-pub opens_more : (o : Opening) (os : List Opening) (later : List Msg) → flat_map guest_opens (o ∷ os) ++ later ≡ cut o.relid o.gpadl (pages_from o) ++ (opens_listed (o ∷ os) ++ later)
-opens_more o os later =
+pub lists_more : (o : Opening) (os : List Opening) (later : List Msg) → lists_dialed (o ∷ os) ++ later ≡ cut o.relid o.gpadl (pages_from o) ++ (opens_listed (o ∷ os) ++ later)
+lists_more o os later =
     let list : List Msg = cut o.relid o.gpadl (pages_from o) in
-    ap (λ xs. xs ++ later) (flat_map-cons guest_opens o os) ∙ append_assoc (list ++ open_on o ∷ []) (flat_map guest_opens os) later ∙ append_assoc list (open_on o ∷ []) (flat_map guest_opens os ++ later)
+    append_assoc (list ++ open_on o ∷ []) (flat_map guest_opens os) later ∙ append_assoc list (open_on o ∷ []) (flat_map guest_opens os ++ later)
+
+pub dials_more : (o : Opening) (os : List Opening) (later : List Msg) → flat_map guest_opens (o ∷ os) ++ later ≡ dials o.dialed ++ (lists_dialed (o ∷ os) ++ later)
+dials_more o os later =
+    ap (λ xs. xs ++ later) (flat_map-cons guest_opens o os) ∙ append_assoc (dials o.dialed ++ guest_lists o) (flat_map guest_opens os) later ∙ append_assoc (dials o.dialed) (guest_lists o) (flat_map guest_opens os ++ later)
+    ∙ ap (λ xs. dials o.dialed ++ xs) (sym (append_assoc (guest_lists o) (flat_map guest_opens os) later))
+
+pub opens_more : (o : Opening) (os : List Opening) (later : List Msg) → o.dialed ≡ None → flat_map guest_opens (o ∷ os) ++ later ≡ cut o.relid o.gpadl (pages_from o) ++ (opens_listed (o ∷ os) ++ later)
+opens_more o os later none = dials_more o os later ∙ ap (λ d. dials d ++ (lists_dialed (o ∷ os) ++ later)) none ∙ lists_more o os later
+
+-- the host offers the channel of a service first
+pub answers_more : (o : Opening) (os : List Opening) (later : List Msg) → host_opens_all (o ∷ os) ++ later ≡ dial_offers o.relid o.dialed ++ (answers_list (o ∷ os) ++ later)
+answers_more o os later =
+    let both : List Msg = created o.relid o.gpadl ∷ opened o.relid o.relid ∷ [] in
+    let rest : List Msg = map offer_sub (subs_next (o ∷ os)) ++ host_opens_all os in
+    append_assoc (dial_offers o.relid o.dialed ++ both) rest later ∙ append_assoc (dial_offers o.relid o.dialed) both (rest ++ later)
+
+pub answers_plain : (o : Opening) (os : List Opening) (later : List Msg) → o.dialed ≡ None → host_opens_all (o ∷ os) ++ later ≡ answers_list (o ∷ os) ++ later
+answers_plain o os later none = answers_more o os later ∙ ap (λ d. dial_offers o.relid d ++ (answers_list (o ∷ os) ++ later)) none
 
 -- in the order in which the channels are closed
 pub ends_left : (plan : BusPlan) (phase place : ℕ) (done left : List Opening) → closing_of plan phase ≡ done ++ left → place ≡ length done → drop place (closing_of plan phase) ≡ left

@@ -4,13 +4,14 @@ use Rattle.std.specs.List.{AllByRecursion, range_with_len}
 use Rattle.std.proofs.lemmas.Bool.{eqb-true}
 use Rattle.std.proofs.lemmas.List.Elements.{All-get_or, filter-append}
 use Rattle.control_model.specs.declared.opening.Opening.{Opening}
-use Rattle.control_model.specs.Plan.{BusPlan, IsPlan, Seated, is_sub, is_of_sub, first_subs, subs_next, subs_in, phase_of}
+use Rattle.control_model.specs.Plan.{BusPlan, IsPlan, Seated, is_sub, is_later, is_of_sub, first_subs, subs_next, laters, phase_of}
 use Rattle.control_model.specs.GuestAt.{from_first_sub}
 use Rattle.control_model.specs.Stand.{At, offered_before, offered_by}
 use Rattle.control_laws.proofs.Marks.{by_test}
-use Rattle.control_laws.proofs.Relids.{relids, phase_relids, sub_place}
+use Rattle.control_laws.proofs.Cutting.{all_weaker}
+use Rattle.control_laws.proofs.Relids.{sub_later, relids, phase_relids, sub_place}
 use Rattle.control_laws.proofs.Plans.{offered_here}
-use Rattle.control_laws.proofs.Counts.{done_known}
+use Rattle.control_laws.proofs.Counts.{done_known, dialed_few}
 use Rattle.control_laws.proofs.Handles.{all_front}
 use Rattle.control_laws.proofs.Saying.{left_at}
 
@@ -66,9 +67,9 @@ no_subs_next o left none = by_test {P = subs_next (o ∷ left) ≡ []} (is_sub o
     (λ e. ap (λ b. if b then [] else first_subs left) e)
     (λ e. ap (λ b. if b then [] else first_subs left) e ∙ no_first left (sym (ap (λ b. not b && is_of_sub (slice_get left 0)) e) ∙ none))
 
-all_subs : (os : List Opening) → AreSubs os → length (subs_in os) ≡ length os
+all_subs : (os : List Opening) → AreSubs os → length (laters os) ≡ length os
 all_subs [] all = refl
-all_subs (o ∷ os) all = ap (λ b. length (cond b (o ∷ subs_in os) (subs_in os))) all.0 ∙ ap (λ n. suc n) (all_subs os all.1)
+all_subs (o ∷ os) all = ap (λ b. length (cond b (o ∷ laters os) (laters os))) (sub_later o all.0) ∙ ap (λ n. suc n) (all_subs os all.1)
 
 -- a sub-channel of a device whose first channel is open, where some of the device's others were offered before it
 pub record SubAt (plan : BusPlan) (phase place : ℕ) (done : List Opening) (first : Opening) (offered : List Opening) (o : Opening) (left : List Opening) : Type 0 where
@@ -76,8 +77,8 @@ pub record SubAt (plan : BusPlan) (phase place : ℕ) (done : List Opening) (fir
   pub back : place + 1 - o.sub ≡ length (done ++ first ∷ [])
   pub here : drop place (phase_of plan phase) ≡ o ∷ left
   pub from_first : from_first_sub (phase_of plan phase) place (drop place (phase_of plan phase)) ≡ offered ++ o ∷ left
-  pub relid_is : o.relid ≡ (offered_by plan phase done [] + length offered) + 1
-  pub known : AllByRecursion (λ p. p.relid ≤ offered_by plan phase done []) (done ++ first ∷ [])
+  pub relid_is : o.relid ≡ (offered_by plan phase (done ++ first ∷ []) [] + length offered) + 1
+  pub known : AllByRecursion (λ p. p.relid ≤ offered_by plan phase (done ++ first ∷ []) []) (done ++ first ∷ [])
 
 pub sub_at : (plan : BusPlan) (phase place : ℕ) (done : List Opening) (first : Opening) (offered : List Opening) (o : Opening) (left : List Opening) → IsPlan plan → At plan phase place (done ++ first ∷ offered) o left → is_sub first ≡ false → AreSubs (offered ++ o ∷ [])
     → SubAt plan phase place done first offered o left
@@ -93,22 +94,28 @@ sub_at plan phase place done first offered o left planned at is_first subs =
     let place_is = at.place_is in
     let back : place + 1 - o.sub ≡ length (done ++ first ∷ []) = omega (arith, place_is, parts, sum, run, none) in
     let here : drop place os ≡ o ∷ left = left_at plan phase place (done ++ first ∷ offered) (o ∷ left) at.phase_is place_is in
-    let P : List Opening → Type 0 = λ xs. relids (subs_in xs) ≡ range_with_len (offered_before plan phase + 1) (length (subs_in xs)) in
+    let P : List Opening → Type 0 = λ xs. relids (laters xs) ≡ range_with_len (offered_before plan phase + 1) (length (laters xs)) in
     let mine : P ((done ++ first ∷ offered) ++ o ∷ left) = subst P at.phase_is (phase_relids plan phase planned at.in_plan).subs_are in
     let apart = all_front (λ p. is_sub p ≡ true) offered (o ∷ []) subs in
-    let spot = sub_place (offered_before plan phase + 1) (done ++ first ∷ offered) o left apart.1.0 mine in
-    let some = ap length (filter-append is_sub done (first ∷ offered)) in
-    let more = length-append (subs_in done) (subs_in (first ∷ offered)) in
-    let without : length (subs_in (first ∷ offered)) ≡ length (subs_in offered) = ap (λ b. length (cond b (first ∷ subs_in offered) (subs_in offered))) is_first in
+    let spot = sub_place (offered_before plan phase + 1) (done ++ first ∷ offered) o left (sub_later o apart.1.0) mine in
+    let joined = ap (λ xs. length (laters xs)) (append_assoc done (first ∷ []) offered) in
+    let some = ap length (filter-append is_later (done ++ first ∷ []) offered) in
+    let more = length-append (laters (done ++ first ∷ [])) (laters offered) in
     let all = all_subs offered apart.0 in
-    let count : offered_by plan phase done (first ∷ behind) ≡ offered_by plan phase done [] = ap (λ b. offered_before plan phase + (length (subs_in done) + length (if b then first ∷ first_subs behind else []))) is_first in
+    let ahead = ap length (filter-append is_later done (first ∷ [])) in
+    let halves = length-append (laters done) (laters (first ∷ [])) in
+    let few = dialed_few first first.dialed refl in
+    let not_subs : length (first_subs (first ∷ behind)) ≡ 0 = ap (λ b. length (if b then first ∷ first_subs behind else [])) is_first in
     let there : At plan phase (length done) done first behind = record { in_plan = at.in_plan; phase_is = whole; place_is = refl } in
-    let known = all_snoc (λ p. p.relid ≤ offered_by plan phase done (first ∷ behind)) done first (done_known plan phase (length done) done first behind planned there) (offered_here plan phase (length done) done first behind planned there) in
+    let last = offered_here plan phase (length done) done first behind planned there in
+    let known = all_snoc (λ p. p.relid ≤ offered_by plan phase (done ++ first ∷ []) []) done first
+    (all_weaker (λ p. p.relid ≤ offered_by plan phase done (first ∷ behind)) (λ p. p.relid ≤ offered_by plan phase (done ++ first ∷ []) []) (λ p l. omega (arith, l, ahead, halves, not_subs)) done (done_known plan phase (length done) done first behind planned there))
+    (omega (arith, last, ahead, halves, few, not_subs)) in
     record {
       split = split;
       back = back;
       here = here;
       from_first = ap (from_first_sub os place) here ∙ ap (λ n. drop n os) back ∙ left_at plan phase (length (done ++ first ∷ [])) (done ++ first ∷ []) behind split refl;
-      relid_is = omega (arith, spot, some, more, without, all);
-      known = subst (λ n. AllByRecursion (λ p. p.relid ≤ n) (done ++ first ∷ [])) count known;
+      relid_is = omega (arith, spot, joined, some, more, all);
+      known = known;
     }

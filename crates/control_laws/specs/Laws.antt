@@ -8,7 +8,7 @@ use Rattle.vmbus_msg.specs.declared.msg.Msg.TheVariants.{OfferChannel, RescindCh
 use Rattle.control_model.specs.declared.opening.Opening.{Opening}
 use Rattle.control_model.specs.declared.guest_turn.GuestTurn.{GuestTurn}
 use Rattle.control_model.specs.Plan.{BusPlan, is_sub, part_after, opening_at, IsPlan}
-use Rattle.control_model.specs.Messages.{offer_sub, rescind, release}
+use Rattle.control_model.specs.Messages.{offer_sub, offer_service, rescind, release}
 use Rattle.control_model.specs.Said.{agreed, said_by_guest, said_by_host}
 use Rattle.control_model.specs.GuestAt.{GuestAt}
 use Rattle.control_model.specs.HostAt.{HostAt}
@@ -98,6 +98,10 @@ is_offer_of relid m = false
 abbrev pub SubsOnce : Type 0
 SubsOnce = (plan : BusPlan) (g : GuestSeen) (h : HostSeen) (phase place : ℕ) (o : Opening) → IsPlan plan → IsOver plan g h → opening_at plan phase place ≡ Some o → is_sub o ≡ true
     → (filter (is_offer_of o.relid) h.posted ≡ offer_sub o ∷ []) × (filter (is_rescind_of o.relid) h.posted ≡ rescind o.relid ∷ []) × (filter (is_release_of o.relid) g.posted ≡ release o.relid ∷ [])
+
+-- the host offers the channel of a service once, as that of the port that the guest asked for
+abbrev pub ServicesOnce : Type 0
+ServicesOnce = (plan : BusPlan) (g : GuestSeen) (h : HostSeen) (phase place : ℕ) (o : Opening) (port : ℕ) → IsPlan plan → IsOver plan g h → opening_at plan phase place ≡ Some o → o.dialed ≡ Some port → filter (is_offer_of o.relid) h.posted ≡ offer_service port o.relid ∷ []
 
 -- the version at the end is the lower one of both ends' highest
 abbrev pub EndsAtLower : Type 0

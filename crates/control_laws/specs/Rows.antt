@@ -1,20 +1,22 @@
 -- What both sides say over small plans.
 use Rattle.std.specs.Prelude.{◌≡◌, ℕ, ◌+◌, ◌*◌, Bool, true, false, not, List, [], ◌∷◌, ◌++◌, Option, Some, None}
+use Rattle.std.specs.List.{range_with_len}
 use Rattle.contact.specs.Versions.{version}
 use Rattle.contact.specs.Classes.{offer}
 use Rattle.contact.specs.declared.kind.Kind.TheVariants.{Beat, Disk}
 use Rattle.chan_state.specs.declared.state.State.TheVariants.{Offered, Closed, Released}
 use Rattle.vmbus_msg.specs.declared.msg.Msg.{Msg}
-use Rattle.gpadl.specs.Cut.{header}
+use Rattle.gpadl.specs.Cut.{header, cut}
 use Rattle.control_model.specs.declared.opening.Opening.{Opening}
 use Rattle.control_model.specs.Plan.{BusPlan, first_gpadl}
-use Rattle.control_model.specs.Messages.{propose, respond, request, delivered, created, open_on, opened, modify, modified, close, teardown, torndown, rescind, release, farewell, farewell_taken}
+use Rattle.control_model.specs.Messages.{propose, respond, request, delivered, connect, offer_service, created, open_on, opened, modify, modified, close, teardown, torndown, rescind, release, farewell, farewell_taken}
+use Rattle.control_model.specs.Sock.{dialed_at, sock_plan}
 use Rattle.control_model.specs.Said.{said_by_guest, said_by_host, at_end}
 use Rattle.control_laws.specs.Over.{vps_at_end}
 
 -- a disk and a heartbeat are offered; one phase opens the disk, with rings of one data page
 abbrev pub disk_of : Opening
-disk_of = record { relid = 1; sub = 0; ring_pages = 1; gpadl = first_gpadl; first_page = 0; rescinded = false; vp = None }
+disk_of = record { relid = 1; sub = 0; ring_pages = 1; gpadl = first_gpadl; first_page = 0; rescinded = false; vp = None; dialed = None }
 
 abbrev pub small_plan : ℕ → ℕ → BusPlan
 small_plan guest host = record { guest = record { 0 = guest }; host = record { 0 = host }; kinds = Disk ∷ Beat ∷ []; phases = (disk_of ∷ []) ∷ [] }
@@ -37,10 +39,10 @@ HostSaysNone = said_by_host (small_plan (version 2 4) (version 5 2)) ≡ respond
 
 -- two disks, of which the host rescinds the first one, or the second one, at the end of the phase; the other one is closed
 abbrev pub first_of : Bool → Opening
-first_of rescinded = record { relid = 1; sub = 0; ring_pages = 1; gpadl = first_gpadl; first_page = 0; rescinded = rescinded; vp = None }
+first_of rescinded = record { relid = 1; sub = 0; ring_pages = 1; gpadl = first_gpadl; first_page = 0; rescinded = rescinded; vp = None; dialed = None }
 
 abbrev pub second_of : Bool → Opening
-second_of rescinded = record { relid = 2; sub = 0; ring_pages = 1; gpadl = first_gpadl + 1; first_page = 4; rescinded = rescinded; vp = None }
+second_of rescinded = record { relid = 2; sub = 0; ring_pages = 1; gpadl = first_gpadl + 1; first_page = 4; rescinded = rescinded; vp = None; dialed = None }
 
 abbrev pub mixed_plan : Bool → BusPlan
 mixed_plan first = record { guest = record { 0 = version 5 2 }; host = record { 0 = version 5 2 }; kinds = Disk ∷ Disk ∷ []; phases = (first_of first ∷ second_of (not first) ∷ []) ∷ [] }
@@ -65,7 +67,7 @@ HostTakesSecond = said_by_host (mixed_plan false)
 
 -- a disk with two sub-channels and a heartbeat are offered; a phase opens the disk, which is closed at its end, or rescinded
 abbrev pub seat_of : Bool → ℕ → ℕ → ℕ → Opening
-seat_of rescinded relid sub turn = record { relid = relid; sub = sub; ring_pages = 1; gpadl = first_gpadl + turn; first_page = 4 * turn; rescinded = rescinded; vp = None }
+seat_of rescinded relid sub turn = record { relid = relid; sub = sub; ring_pages = 1; gpadl = first_gpadl + turn; first_page = 4 * turn; rescinded = rescinded; vp = None; dialed = None }
 
 abbrev pub subs_plan : Bool → BusPlan
 subs_plan rescinded = record {
@@ -108,7 +110,7 @@ EndStates = (at_end (mixed_plan true) ≡ Released ∷ Closed ∷ []) × (at_end
 
 -- a disk and a heartbeat, both opened in a phase that moves the one to processor 5 and the other to processor 3
 abbrev pub moved_of : ℕ → ℕ → Option ℕ → Opening
-moved_of relid place vp = record { relid = relid; sub = 0; ring_pages = 1; gpadl = first_gpadl + place; first_page = 4 * place; rescinded = false; vp = vp }
+moved_of relid place vp = record { relid = relid; sub = 0; ring_pages = 1; gpadl = first_gpadl + place; first_page = 4 * place; rescinded = false; vp = vp; dialed = None }
 
 abbrev pub moving_plan : ℕ → ℕ → BusPlan
 moving_plan guest host = record { guest = record { 0 = guest }; host = record { 0 = host }; kinds = Disk ∷ Beat ∷ []; phases = (moved_of 1 0 (Some 5) ∷ moved_of 2 1 (Some 3) ∷ []) ∷ [] }
@@ -141,3 +143,15 @@ twice_moving guest = record { guest = record { 0 = guest }; host = record { 0 = 
 
 abbrev pub EndVps : Type 0
 EndVps = (vps_at_end (twice_moving (version 4 1)) ≡ 7 ∷ 3 ∷ []) × (vps_at_end (twice_moving (version 4 0)) ≡ 0 ∷ 0 ∷ [])
+
+-- a socket's: no device is offered, the guest asks for the service at the port, and the channel is rescinded
+abbrev pub GuestDials : Type 0
+GuestDials = (port : ℕ) → said_by_guest (sock_plan port)
+    ≡ propose (version 5 2) ∷ request ∷ connect port ∷ (cut 1 first_gpadl (range_with_len 0 34) ++ (open_on (dialed_at port) ∷ release 1 ∷ farewell ∷ []))
+
+abbrev pub HostOffersService : Type 0
+HostOffersService = (port : ℕ) → said_by_host (sock_plan port)
+    ≡ respond 1 ∷ delivered ∷ offer_service port 1 ∷ created 1 first_gpadl ∷ opened 1 1 ∷ rescind 1 ∷ farewell_taken ∷ []
+
+abbrev pub SockState : Type 0
+SockState = (port : ℕ) → at_end (sock_plan port) ≡ Released ∷ []

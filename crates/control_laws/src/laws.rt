@@ -1,9 +1,9 @@
 //! Laws of a guest's control and of its host's, of each by itself and of both as they exchange messages. The
 //! functions do nothing: each one's contract is the law.
 ghost use Rattle.control_laws.specs.Sides.{NewOnesStand, GuestStarts, HostStarts, GuestHears, HostHears, GuestFronts, HostFronts, GuestIsCut, HostIsCut, BothOver};
-ghost use Rattle.control_laws.specs.Laws.{NewOnesAgree, BothBegin, HostGoesOn, GuestGoesOn, BothDone, FewOnTheirWay, EndsWell, EndTellsEach, RescindedAreReleased, RescindedOnce, SubsAreReleased, SubsOnce, EndsAtLower};
+ghost use Rattle.control_laws.specs.Laws.{NewOnesAgree, BothBegin, HostGoesOn, GuestGoesOn, BothDone, FewOnTheirWay, EndsWell, EndTellsEach, RescindedAreReleased, RescindedOnce, SubsAreReleased, SubsOnce, ServicesOnce, EndsAtLower};
 ghost use Rattle.control_laws.specs.Plain.{PlainGuest, PlainHost, PlainCount};
-ghost use Rattle.control_laws.specs.Rows.{GuestSays, HostSays, GuestSaysNone, HostSaysNone, GuestGivesFirst, HostTakesFirst, GuestGivesSecond, HostTakesSecond, GuestClosesSubs, HostClosesSubs, GuestGivesSubs, HostTakesSubs, EndStates, SubStates, GuestMoves, HostAnswers, EndVps};
+ghost use Rattle.control_laws.specs.Rows.{GuestSays, HostSays, GuestSaysNone, HostSaysNone, GuestGivesFirst, HostTakesFirst, GuestGivesSecond, HostTakesSecond, GuestClosesSubs, HostClosesSubs, GuestGivesSubs, HostTakesSubs, EndStates, SubStates, GuestMoves, HostAnswers, EndVps, GuestDials, HostOffersService, SockState};
 
 /// A side that was made from a plan stands at the start.
 pub fn new_ones_stand()
@@ -119,8 +119,13 @@ pub fn subs_once()
     ensures { SubsOnce }
 {}
 
+/// The host offers the channel of a service that the guest asks for once.
+pub fn services_once()
+    ensures { ServicesOnce }
+{}
+
 /// Where no sub-channel is opened, each side opens and closes the channels of a phase in order of
-/// offer, and there is a channel for each device.
+/// offer; and where no channel is offered but at the contact there is one for each device.
 pub fn plain()
     ensures guest { PlainGuest }
     ensures host { PlainHost }
@@ -136,7 +141,8 @@ pub fn ends_at_lower()
 /// farewell, which isn't said below 3.0; and of two channels, one that is rescinded and one that is
 /// closed at the end of a phase, in both orders, and how they stand then; and of a disk with two
 /// sub-channels that is closed at the end of a phase, or rescinded; and of two channels that are moved to
-/// other processors, which isn't said below 4.1 and isn't answered below 5.3.
+/// other processors, which isn't said below 4.1 and isn't answered below 5.3; and over the plan of a
+/// socket, whose channel the guest asks for and gives back.
 pub fn say_so()
     ensures guest { GuestSays }
     ensures host { HostSays }
@@ -155,4 +161,7 @@ pub fn say_so()
     ensures guest_moves { GuestMoves }
     ensures host_answers { HostAnswers }
     ensures vps { EndVps }
+    ensures guest_dials { GuestDials }
+    ensures host_offers { HostOffersService }
+    ensures sock_state { SockState }
 {}

@@ -1,5 +1,5 @@
 -- The openings of a phase, one device after the other.
-use Rattle.std.proofs.Common.{◌≡◌, ◌∙◌, ℕ, zero, suc, ◌+◌, ◌≤◌, ◌==◌, not, Bool, true, false, cond, if◌then◌else◌, List, [], ◌∷◌, ◌++◌, length, nat_eq, refl, sym, ap, subst, arith, length-append, append_assoc}
+use Rattle.std.proofs.Common.{◌≡◌, ◌∙◌, ℕ, zero, suc, ◌+◌, ◌≤◌, ◌==◌, not, Bool, true, false, cond, if◌then◌else◌, List, [], ◌∷◌, ◌++◌, length, nat_eq, refl, sym, ap, subst, arith, length-append, append_assoc, None}
 use Rattle.std.proofs.lemmas.List.{append-nil}
 use Rattle.std.proofs.lemmas.List.Elements.{filter-append}
 use Rattle.std.proofs.lemmas.Bool.Decides.{nat_tests}
@@ -20,7 +20,7 @@ openings_append sizes fates gpadl page [] ys =
     (λ i. openings_from sizes fates (a i) (b i) ys)
 openings_append sizes fates gpadl page (x ∷ xs) ys =
     let size : ℕ = list_pages (sizes x.device) in
-    let first : Opening = record { relid = x.relid; sub = x.sub; ring_pages = sizes x.device; gpadl = gpadl; first_page = page; rescinded = (fates x.device).rescinded; vp = vp_at (fates x.device).vp x.sub } in
+    let first : Opening = record { relid = x.relid; sub = x.sub; ring_pages = sizes x.device; gpadl = gpadl; first_page = page; rescinded = (fates x.device).rescinded; vp = vp_at (fates x.device).vp x.sub; dialed = None } in
     let rest : List Opening = openings_from sizes fates (gpadl + 1) (page + size) xs in
     let a : (gpadl + 1) + length xs ≡ gpadl + suc (length xs) = omega arith in
     let b : (page + size) + pages_in sizes xs ≡ page + (size + pages_in sizes xs) = omega arith in
@@ -83,7 +83,7 @@ opened_more p device next (k ∷ specs) spec =
 subs_so : (sizes : ℕ → ℕ) (fates : ℕ → Fate) (gpadl page device sub relid n : ℕ) (spec : DeviceSpec) → openings_from sizes fates gpadl page (subs_from device spec sub relid n) ≡ openings_from (λ d. sizes device) (λ d. fates device) gpadl page (subs_from device spec sub relid n)
 subs_so sizes fates gpadl page device sub relid zero spec = refl
 subs_so sizes fates gpadl page device sub relid (suc n) spec =
-    ap (λ (os : List Opening). record { relid = relid; sub = sub; ring_pages = sizes device; gpadl = gpadl; first_page = page; rescinded = (fates device).rescinded; vp = vp_at (fates device).vp sub } ∷ os) (subs_so sizes fates (gpadl + 1) (page + list_pages (sizes device)) device (sub + 1) (relid + 1) n spec)
+    ap (λ (os : List Opening). record { relid = relid; sub = sub; ring_pages = sizes device; gpadl = gpadl; first_page = page; rescinded = (fates device).rescinded; vp = vp_at (fates device).vp sub; dialed = None } ∷ os) (subs_so sizes fates (gpadl + 1) (page + list_pages (sizes device)) device (sub + 1) (relid + 1) n spec)
 
 subs_pages : (sizes : ℕ → ℕ) (device sub relid n : ℕ) (spec : DeviceSpec) → pages_in sizes (subs_from device spec sub relid n) ≡ pages_in (λ d. sizes device) (subs_from device spec sub relid n)
 subs_pages sizes device sub relid zero spec = refl
@@ -92,7 +92,7 @@ subs_pages sizes device sub relid (suc n) spec = ap (λ k. list_pages (sizes dev
 if_so : (sizes : ℕ → ℕ) (fates : ℕ → Fate) (gpadl page device relid : ℕ) (spec : DeviceSpec) (b : Bool) → openings_from sizes fates gpadl page (channels_if b device spec relid) ≡ openings_from (λ d. sizes device) (λ d. fates device) gpadl page (channels_if b device spec relid)
 if_so sizes fates gpadl page device relid spec false = refl
 if_so sizes fates gpadl page device relid spec true =
-    ap (λ (os : List Opening). record { relid = device + 1; sub = 0; ring_pages = sizes device; gpadl = gpadl; first_page = page; rescinded = (fates device).rescinded; vp = vp_at (fates device).vp 0 } ∷ os) (subs_so sizes fates (gpadl + 1) (page + list_pages (sizes device)) device 1 relid (subs_of spec) spec)
+    ap (λ (os : List Opening). record { relid = device + 1; sub = 0; ring_pages = sizes device; gpadl = gpadl; first_page = page; rescinded = (fates device).rescinded; vp = vp_at (fates device).vp 0; dialed = None } ∷ os) (subs_so sizes fates (gpadl + 1) (page + list_pages (sizes device)) device 1 relid (subs_of spec) spec)
 
 if_pages : (sizes : ℕ → ℕ) (device relid : ℕ) (spec : DeviceSpec) (b : Bool) → pages_in sizes (channels_if b device spec relid) ≡ pages_in (λ d. sizes device) (channels_if b device spec relid)
 if_pages sizes device relid spec false = refl
@@ -154,7 +154,7 @@ first_of device spec = record { relid = device + 1; device = device; spec = spec
 -- what opening one channel leaves: its opening, and what comes next
 abbrev pub Opened : ℕ → ℕ → ℕ → Fate → List Opening → Next → List Opening → Next → Type 0
 Opened relid sub ring_pages fate os next os' next' =
-    (os' ≡ os ++ record { relid = relid; sub = sub; ring_pages = ring_pages; gpadl = next.gpadl; first_page = next.page; rescinded = fate.rescinded; vp = vp_at fate.vp sub } ∷ [])
+    (os' ≡ os ++ record { relid = relid; sub = sub; ring_pages = ring_pages; gpadl = next.gpadl; first_page = next.page; rescinded = fate.rescinded; vp = vp_at fate.vp sub; dialed = None } ∷ [])
     × (next' ≡ record { gpadl = next.gpadl + 1; page = next.page + list_pages ring_pages; relid = next.relid })
 
 pub dealt_none : (device ring_pages relid : ℕ) (spec : DeviceSpec) (fate : Fate) (os : List Opening) (next : Next) → Dealt (channels_if false device spec relid) ring_pages fate os next os next
@@ -185,7 +185,7 @@ dealt_on device ring_pages relid i spec fate os os' os'' next next' next'' from 
     let sizes : ℕ → ℕ = λ d. ring_pages in
     let gone : ℕ → Fate = λ d. fate in
     let openings : os'' ≡ os ++ openings_from sizes gone next.gpadl next.page (xs ++ y ∷ []) =
-    opened.0 ∙ (λ j. so_far.openings j ++ record { relid = r j; sub = s j; ring_pages = ring_pages; gpadl = g j; first_page = q j; rescinded = fate.rescinded; vp = vp_at fate.vp (s j) } ∷ [])
+    opened.0 ∙ (λ j. so_far.openings j ++ record { relid = r j; sub = s j; ring_pages = ring_pages; gpadl = g j; first_page = q j; rescinded = fate.rescinded; vp = vp_at fate.vp (s j); dialed = None } ∷ [])
     ∙ append_assoc os (openings_from sizes gone next.gpadl next.page xs) _ ∙ ap (λ (zs : List Opening). os ++ zs) (sym (openings_append sizes gone next.gpadl next.page xs (y ∷ []))) in
     let P : List PhaseOpening → Type 0 = λ cs. (os'' ≡ os ++ openings_from sizes gone next.gpadl next.page cs) × (next''.gpadl ≡ next.gpadl + length cs) × (next''.page ≡ next.page + pages_in sizes cs) in
     let both = length-append xs (y ∷ []) in

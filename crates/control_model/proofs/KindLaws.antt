@@ -1,18 +1,15 @@
 -- The kinds that class ids name.
-use Rattle.std.proofs.Common.{◌≡◌, ◌≢◌, ℕ, Bool, true, false, List, Some, None, refl, ap}
+use Rattle.std.proofs.Common.{◌≡◌, ◌≢◌, ◌∙◌, ◌<◌, ◌^◌, ℕ, Bool, true, false, List, [], ◌∷◌, drop, take, Some, None, Option, refl, ap, sym, if◌then◌else◌}
 use Rattle.std.proofs.lemmas.Slice.Eq.{bytes_eq-Decides}
+use Rattle.std.proofs.lemmas.Nat.{from_le_bytes-to_le_bytes_4}
+use Rattle.std.specs.Int.{from_le_bytes, w32}
 use Rattle.std.specs.Str.{bytes_eq}
 use Rattle.contact.specs.declared.kind.Kind.{Kind}
-use Rattle.contact.specs.declared.kind.Kind.TheVariants.{Beat, Down, Disk, Net}
+use Rattle.contact.specs.declared.kind.Kind.TheVariants.{Beat, Down, Disk, Net, Sock}
 use Rattle.contact.specs.Classes.{class_id}
-use Rattle.control_model.specs.Channels.{kind_with}
-
--- a class id names its kind
-pub kind_of_class : (kind : Kind) (id : List ℕ) → id ≡ class_id kind → kind_with id ≡ Some kind
-kind_of_class Beat id e = ap kind_with e
-kind_of_class Down id e = ap kind_with e
-kind_of_class Disk id e = ap kind_with e
-kind_of_class Net id e = ap kind_with e
+use Rattle.contact.specs.Services.{service_id}
+use Rattle.control_model.specs.Plan.{HasPort}
+use Rattle.control_model.specs.Channels.{kind_with, service_with, port_with}
 
 fails : {P : Type 0} (b : Bool) → (b ≡ true → P) → (P → ⊥) → b ≡ false
 fails true holds none = absurd (none (holds refl))
@@ -21,6 +18,37 @@ fails false holds none = refl
 differ : (xs ys : List ℕ) → xs ≢ ys → bytes_eq xs ys ≡ false
 differ xs ys none = fails (bytes_eq xs ys) (bytes_eq-Decides xs ys).0 none
 
+same : (xs : List ℕ) → bytes_eq xs xs ≡ true
+same xs = (bytes_eq-Decides xs xs).1 refl
+
+-- a service's id says its port
+port_of : (port : ℕ) → port < 2 ^ 32 → port_with (service_id port) ≡ port
+port_of port small = from_le_bytes-to_le_bytes_4 port small
+
+service_is : (port : ℕ) → port < 2 ^ 32 → service_with (service_id port) ≡ Some (Sock port)
+service_is port small =
+    ap (λ p. if bytes_eq (service_id port) (service_id p) then Some (Sock p) else None) (port_of port small)
+    ∙ ap (λ b. if b then Some (Sock port) else None) (same (service_id port))
+
+-- and isn't a device's: the tails differ
+no_device : (port : ℕ) (id : List ℕ) → drop 4 (service_id port) ≢ drop 4 id → bytes_eq (service_id port) id ≡ false
+no_device port id none = differ (service_id port) id (λ e. none (ap (drop 4) e))
+
+service_kind : (port : ℕ) → port < 2 ^ 32 → kind_with (service_id port) ≡ Some (Sock port)
+service_kind port small =
+    rw (no_device port (class_id Beat) (λ e. cc), no_device port (class_id Down) (λ e. cc), no_device port (class_id Disk) (λ e. cc), no_device port (class_id Net) (λ e. cc)) (service_is port small)
+
+-- a class id names its kind
+pub kind_of_class : (kind : Kind) (id : List ℕ) → HasPort kind → id ≡ class_id kind → kind_with id ≡ Some kind
+kind_of_class Beat id fits e = ap kind_with e
+kind_of_class Down id fits e = ap kind_with e
+kind_of_class Disk id fits e = ap kind_with e
+kind_of_class Net id fits e = ap kind_with e
+kind_of_class (Sock port) id fits e = ap kind_with e ∙ service_kind port fits
+
 -- what is no class id names none
+no_service : (id : List ℕ) → ((kind : Kind) → id ≢ class_id kind) → service_with id ≡ None
+no_service id none = ap (λ b. if b then Some (Sock (port_with id)) else None) (differ id (service_id (port_with id)) (none (Sock (port_with id))))
+
 pub kind_of_none : (id : List ℕ) → ((kind : Kind) → id ≢ class_id kind) → kind_with id ≡ None
-kind_of_none id none = rw (differ id (class_id Beat) (none Beat), differ id (class_id Down) (none Down), differ id (class_id Disk) (none Disk), differ id (class_id Net) (none Net)) refl
+kind_of_none id none = rw (differ id (class_id Beat) (none Beat), differ id (class_id Down) (none Down), differ id (class_id Disk) (none Disk), differ id (class_id Net) (none Net)) (no_service id none)

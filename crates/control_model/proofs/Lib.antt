@@ -5,5 +5,6 @@ pub mod DealingLaws
 pub mod CuttingLaws
 pub mod PhaseLaws
 pub mod ScriptLaws
+pub mod SockLaws
 pub mod SubLaws
 pub mod OpenedLaws

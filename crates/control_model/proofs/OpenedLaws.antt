@@ -1,5 +1,5 @@
 -- What the openings of one phase keep.
-use Rattle.std.proofs.Common.{◌≡◌, ◌∙◌, ℕ, zero, suc, ◌+◌, ◌*◌, ◌^◌, ◌<◌, ◌≤◌, ◌==◌, Bool, true, false, cond, not, if◌then◌else◌, All, List, [], ◌∷◌, ◌++◌, length, map, sum_by, refl, ap, subst, arith, length-append}
+use Rattle.std.proofs.Common.{◌≡◌, ◌∙◌, ℕ, zero, suc, ◌+◌, ◌*◌, ◌^◌, ◌<◌, ◌≤◌, ◌==◌, Bool, true, false, cond, not, if◌then◌else◌, All, List, [], ◌∷◌, ◌++◌, length, map, sum_by, refl, ap, subst, arith, length-append, None}
 use Rattle.std.proofs.lemmas.Bool.Decides.{nat_tests}
 use Rattle.std.proofs.lemmas.List.Elements.{All-nil, All-cons}
 use Rattle.std.proofs.lemmas.List.Sums.{sum_by-cons}
@@ -10,7 +10,7 @@ use Rattle.script_lines.specs.Parts.{channels_of}
 use Rattle.script_phases.specs.Openings.{Opening as PhaseOpening, subs_of, subs_from, channels_from, opened_from, others}
 use Rattle.control_model.specs.declared.opening.Opening.{Opening}
 use Rattle.control_model.specs.declared.planning.Fate.{Fate}
-use Rattle.control_model.specs.Plan.{IsOpening, Seated, Rising, Follows, is_sub, firsts, subs_in, list_pages, most_channels}
+use Rattle.control_model.specs.Plan.{IsOpening, Seated, Rising, Follows, is_later, firsts, laters, list_pages, most_channels}
 use Rattle.control_model.specs.Openings.{openings_from, pages_in, vp_at}
 use Rattle.control_model.proofs.DealingLaws.{channels_others, other_one}
 use Rattle.control_model.proofs.SubLaws.{by_test, none_by}
@@ -107,7 +107,7 @@ named p count low past c is few some room =
 -- their openings
 
 abbrev pub opening : (ℕ → ℕ) → (ℕ → Fate) → ℕ → ℕ → PhaseOpening → Opening
-opening sizes fates gpadl page c = record { relid = c.relid; sub = c.sub; ring_pages = sizes c.device; gpadl = gpadl; first_page = page; rescinded = (fates c.device).rescinded; vp = vp_at (fates c.device).vp c.sub }
+opening sizes fates gpadl page c = record { relid = c.relid; sub = c.sub; ring_pages = sizes c.device; gpadl = gpadl; first_page = page; rescinded = (fates c.device).rescinded; vp = vp_at (fates c.device).vp c.sub; dialed = None }
 
 pub many_from : (sizes : ℕ → ℕ) (fates : ℕ → Fate) (gpadl page : ℕ) (cs : List PhaseOpening) → length (openings_from sizes fates gpadl page cs) ≡ length cs
 many_from sizes fates gpadl page [] = refl
@@ -130,6 +130,8 @@ fits_from sizes fates gpadl page (c ∷ cs) sized relids room =
       some_pages = size.0;
       few_pages = size.1;
       numbered = omega (arith, size.1, room);
+      alone = λ e. absurd (let wrong : false ≡ true = e in cc);
+      port = tt;
     } in
     All-cons (λ o. IsOpening o) (opening sizes fates gpadl page c) (openings_from sizes fates (gpadl + 1) (page + list_pages (sizes c.device)) cs) one
     (fits_from sizes fates (gpadl + 1) (page + list_pages (sizes c.device)) cs sized relids.1 (omega (arith, size.1, room)))
@@ -151,9 +153,9 @@ follow_from sizes fates gpadl page (c ∷ cs) os rest =
 
 -- those of first channels alone are offered from the start
 pub offered_from : (sizes : ℕ → ℕ) (fates : ℕ → Fate) (p : ℕ → Bool) (count low past gpadl page : ℕ) (cs : List PhaseOpening) → AllByRecursion (IsChannel p count low past) cs
-    → All (λ o. is_sub o ≡ false → o.relid ≤ count) (openings_from sizes fates gpadl page cs)
+    → All (λ o. is_later o ≡ false → o.relid ≤ count) (openings_from sizes fates gpadl page cs)
 offered_from sizes fates p count low past gpadl page cs are =
-    each_from sizes fates (λ o. is_sub o ≡ false → o.relid ≤ count) (IsChannel p count low past) (λ c g q is first. let relid = is.first (none_by c.sub first) in let below = is.below in omega (arith, relid, below)) gpadl page cs are
+    each_from sizes fates (λ o. is_later o ≡ false → o.relid ≤ count) (IsChannel p count low past) (λ c g q is first. let relid = is.first (none_by c.sub first) in let below = is.below in omega (arith, relid, below)) gpadl page cs are
 
 -- each sub-channel has its number
 seats_from : (sizes : ℕ → ℕ) (fates : ℕ → Fate) (gpadl page device sub relid n : ℕ) (spec : DeviceSpec) (on : List PhaseOpening) → ((m g q : ℕ) → Seated m (openings_from sizes fates g q on))
@@ -208,17 +210,17 @@ keep_one : (b : Bool) (o : Opening) (c : PhaseOpening) (os : List Opening) (cs :
 keep_one true o c os cs here rest = (λ i. here i ∷ rest i)
 keep_one false o c os cs here rest = rest
 
-pub subs_made : (sizes : ℕ → ℕ) (fates : ℕ → Fate) (gpadl page : ℕ) (cs : List PhaseOpening) → map (λ (x : Opening). x.relid) (subs_in (openings_from sizes fates gpadl page cs)) ≡ map (λ (x : PhaseOpening). x.relid) (others cs)
+pub subs_made : (sizes : ℕ → ℕ) (fates : ℕ → Fate) (gpadl page : ℕ) (cs : List PhaseOpening) → map (λ (x : Opening). x.relid) (laters (openings_from sizes fates gpadl page cs)) ≡ map (λ (x : PhaseOpening). x.relid) (others cs)
 subs_made sizes fates gpadl page [] = refl
 subs_made sizes fates gpadl page (c ∷ cs) =
     let rest = subs_made sizes fates (gpadl + 1) (page + list_pages (sizes c.device)) cs in
-    keep_one (not (c.sub == 0)) (opening sizes fates gpadl page c) c (subs_in (openings_from sizes fates (gpadl + 1) (page + list_pages (sizes c.device)) cs)) (others cs) refl rest
+    keep_one (not (c.sub == 0)) (opening sizes fates gpadl page c) c (laters (openings_from sizes fates (gpadl + 1) (page + list_pages (sizes c.device)) cs)) (others cs) refl rest
 
 -- sizes that are the same for their devices give the same openings
 pub openings_same : (s t : ℕ → ℕ) (fates : ℕ → Fate) (gpadl page : ℕ) (cs : List PhaseOpening) → AllByRecursion (λ c. s c.device ≡ t c.device) cs → openings_from s fates gpadl page cs ≡ openings_from t fates gpadl page cs
 openings_same s t fates gpadl page [] same = refl
 openings_same s t fates gpadl page (c ∷ cs) same =
-    let O : ℕ → List Opening = λ n. record { relid = c.relid; sub = c.sub; ring_pages = n; gpadl = gpadl; first_page = page; rescinded = (fates c.device).rescinded; vp = vp_at (fates c.device).vp c.sub } ∷ openings_from s fates (gpadl + 1) (page + list_pages n) cs in
+    let O : ℕ → List Opening = λ n. record { relid = c.relid; sub = c.sub; ring_pages = n; gpadl = gpadl; first_page = page; rescinded = (fates c.device).rescinded; vp = vp_at (fates c.device).vp c.sub; dialed = None } ∷ openings_from s fates (gpadl + 1) (page + list_pages n) cs in
     ap O same.0 ∙ ap (λ os. opening t fates gpadl page c ∷ os) (openings_same s t fates (gpadl + 1) (page + list_pages (t c.device)) cs same.1)
 
 pub pages_same : (s t : ℕ → ℕ) (cs : List PhaseOpening) → AllByRecursion (λ c. s c.device ≡ t c.device) cs → pages_in s cs ≡ pages_in t cs

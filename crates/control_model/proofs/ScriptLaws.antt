@@ -8,6 +8,9 @@ use Rattle.std.proofs.lemmas.List.FromFn.{get_or-map-range_with_len, length-map-
 use Rattle.std.proofs.lemmas.Bool.Decides.{nat_tests}
 use Rattle.std.specs.List.{flat_map, list_any, onto_first, range_with_len, AllByRecursion}
 use Rattle.contact.specs.declared.kind.Kind.{Kind}
+use Rattle.contact.specs.declared.kind.DeviceKind.{DeviceKind}
+use Rattle.contact.specs.declared.kind.DeviceKind.TheVariants.{Beat as BeatDevice, Down as DownDevice, Disk as DiskDevice, Net as NetDevice}
+use Rattle.contact.specs.Classes.{offered_kind}
 use Rattle.contact.specs.declared.version.Version.{Version}
 use Rattle.contact.specs.Versions.{IsVersion}
 use Rattle.script_lines.specs.declared.line.Line.{Line}
@@ -26,7 +29,7 @@ use Rattle.control_model.specs.declared.planning.Served.{Served}
 use Rattle.control_model.specs.declared.planning.Fate.{Fate}
 use Rattle.control_model.specs.declared.opening.Opening.{Opening}
 use Rattle.control_model.specs.Dealing.{served_of, size_in, no_device, HasSizes}
-use Rattle.control_model.specs.Plan.{BusPlan, IsPlan, IsOpening, Rising, Follows, OpensAgain, RescindsEnd, is_sub, firsts as firsts_of, subs_in, Seated, all_openings, first_gpadl, most_channels}
+use Rattle.control_model.specs.Plan.{BusPlan, IsPlan, IsOpening, Rising, Follows, OpensAgain, RescindsEnd, is_sub, is_later, firsts as firsts_of, laters, HasPort, Seated, all_openings, first_gpadl, most_channels}
 use Rattle.script_phases.specs.Agreed.{guest_in, host_in, guest_by, host_by, agreed_in}
 use Rattle.control_model.specs.Openings.{plan_of, openings_from, pages_in, numbered, fate_of}
 use Rattle.control_model.proofs.SubLaws.{by_test, none_by, some_by}
@@ -155,7 +158,7 @@ none_opened_again sizes p part count low past gpadl page cs later are over up fi
 -- the openings of all phases
 pub record Phases (count gpadl page : ℕ) (phases : List (List Opening)) : Type 0 where
   pub fits : All (λ os. All (λ o. IsOpening o) os) phases
-  pub offered : All (λ os. All (λ o. is_sub o ≡ false → o.relid ≤ count) os) phases
+  pub offered : All (λ os. All (λ o. is_later o ≡ false → o.relid ≤ count) os) phases
   pub rising : All (λ os. Rising 1 (firsts_of os)) phases
   pub seated : All (λ os. Seated 0 os) phases
   pub small : All (λ os. length os ≤ 16) phases
@@ -167,7 +170,7 @@ all_phases : (sizes : ℕ → ℕ) (v : ℕ) (specs : List DeviceSpec) (number n
     → Phases (length specs) gpadl page (numbered sizes gpadl page (phases_from v specs number next earlier ps))
 all_phases sizes v specs number next gpadl page earlier [] sized few narrow over relids room = record {
   fits = All-nil (λ os. All (λ o. IsOpening o) os);
-  offered = All-nil (λ os. All (λ o. is_sub o ≡ false → o.relid ≤ length specs) os);
+  offered = All-nil (λ os. All (λ o. is_later o ≡ false → o.relid ≤ length specs) os);
   rising = All-nil (λ os. Rising 1 (firsts_of os));
   seated = All-nil (λ os. Seated 0 os);
   small = All-nil (λ os. length os ≤ 16);
@@ -190,7 +193,7 @@ all_phases sizes v specs number next gpadl page earlier (part ∷ ps) sized few 
     let all_named = all_so (IsChannel p count next relid) (λ c. (1 ≤ c.relid) × (c.relid ≤ most_channels)) (λ c is. named p count next relid c is few (omega (arith, over)) (omega (arith, relids, fresh))) cs are in
     record {
       fits = All-cons (λ os. All (λ o. IsOpening o) os) here later (fits_from sizes fates gpadl page cs sized all_named (omega (arith, room, some))) rest.fits;
-      offered = All-cons (λ os. All (λ o. is_sub o ≡ false → o.relid ≤ count) os) here later (offered_from sizes fates p count next relid gpadl page cs are) rest.offered;
+      offered = All-cons (λ os. All (λ o. is_later o ≡ false → o.relid ≤ count) os) here later (offered_from sizes fates p count next relid gpadl page cs are) rest.offered;
       rising = All-cons (λ os. Rising 1 (firsts_of os)) here later (rising_from sizes fates p gpadl page 0 next specs) rest.rising;
       seated = All-cons (λ os. Seated 0 os) here later (seated_from sizes fates p 0 gpadl page 0 next specs) rest.seated;
       small = All-cons (λ os. length os ≤ 16) here later (let many = many_from sizes fates gpadl page cs in omega (arith, many, some)) rest.small;
@@ -202,7 +205,7 @@ all_phases sizes v specs number next gpadl page earlier (part ∷ ps) sized few 
     }
 
 -- sub-channels have the relids that their phases give them
-subs_later : (sizes : ℕ → ℕ) (gpadl page : ℕ) (phases : List Phase) → map (λ (x : Opening). x.relid) (subs_in (all_openings (numbered sizes gpadl page phases))) ≡ map (λ (x : PhaseOpening). x.relid) (flat_map (λ p. others p.opened) phases)
+subs_later : (sizes : ℕ → ℕ) (gpadl page : ℕ) (phases : List Phase) → map (λ (x : Opening). x.relid) (laters (all_openings (numbered sizes gpadl page phases))) ≡ map (λ (x : PhaseOpening). x.relid) (flat_map (λ p. others p.opened) phases)
 subs_later sizes gpadl page [] = refl
 subs_later sizes gpadl page (p ∷ phases) =
     let fates : ℕ → Fate = λ device. fate_of device p.part in
@@ -210,12 +213,12 @@ subs_later sizes gpadl page (p ∷ phases) =
     let later = all_openings (numbered sizes (gpadl + length p.opened) (page + pages_in sizes p.opened) phases) in
     let mine = subs_made sizes fates gpadl page p.opened in
     let rest = subs_later sizes (gpadl + length p.opened) (page + pages_in sizes p.opened) phases in
-    ap (map (λ (x : Opening). x.relid)) (filter-append is_sub here later) ∙ map-append (λ (x : Opening). x.relid) (subs_in here) (subs_in later)
+    ap (map (λ (x : Opening). x.relid)) (filter-append is_later here later) ∙ map-append (λ (x : Opening). x.relid) (laters here) (laters later)
     ∙ (λ i. mine i ++ rest i) ∙ sym (map-append (λ (x : PhaseOpening). x.relid) (others p.opened) (flat_map (λ p. others p.opened) phases))
 
-later_relids : (lines : List Line) (sizes : ℕ → ℕ) → (let os = subs_in (all_openings (numbered sizes first_gpadl 0 (phases_of lines))) in map (λ (x : Opening). x.relid) os ≡ range_with_len (length (offered lines) + 1) (length os))
+later_relids : (lines : List Line) (sizes : ℕ → ℕ) → (let os = laters (all_openings (numbered sizes first_gpadl 0 (phases_of lines))) in map (λ (x : Opening). x.relid) os ≡ range_with_len (length (offered lines) + 1) (length os))
 later_relids lines sizes =
-    let os = subs_in (all_openings (numbered sizes first_gpadl 0 (phases_of lines))) in
+    let os = laters (all_openings (numbered sizes first_gpadl 0 (phases_of lines))) in
     let same : map (λ (x : Opening). x.relid) os ≡ map (λ (x : PhaseOpening). x.relid) (later_channels lines) = subs_later sizes first_gpadl 0 (phases_of lines) in
     let count : length (later_channels lines) ≡ length os = sym (length-map (later_channels lines) (λ (x : PhaseOpening). x.relid)) ∙ (ap length (sym same) ∙ length-map os (λ (x : Opening). x.relid)) in
     same ∙ (next_relids_lem lines ∙ ap (range_with_len (length (offered lines) + 1)) count)
@@ -246,12 +249,23 @@ pub phases_are : (lines : List Line) → length (plan_of lines).phases ≡ lengt
 phases_are lines =
     numbered_length (λ d. ring_pages_of d lines) first_gpadl 0 (phases_of lines) ∙ opened_length (agreed_in lines) (offered lines) 0 (length (offered lines) + 1) [] (parts lines)
 
+-- a script's devices are no services at a port
+no_port : (kind : DeviceKind) → HasPort (offered_kind kind)
+no_port BeatDevice = tt
+no_port DownDevice = tt
+no_port DiskDevice = tt
+no_port NetDevice = tt
+
+no_ports : (specs : List DeviceSpec) → All HasPort (map (λ (spec : DeviceSpec). offered_kind (kind_of spec)) specs)
+no_ports [] = All-nil HasPort
+no_ports (spec ∷ specs) = All-cons HasPort (offered_kind (kind_of spec)) (map (λ (spec : DeviceSpec). offered_kind (kind_of spec)) specs) (no_port (kind_of spec)) (no_ports specs)
+
 pub plan_is : (lines : List Line) → IsScript lines → IsPlan (plan_of lines)
 plan_is lines script =
     let kinds = offered lines in
     let count = length kinds in
     let sizes : ℕ → ℕ = λ d. ring_pages_of d lines in
-    let each : length (map kind_of kinds) ≡ count = length-map kinds kind_of in
+    let each : length (map (λ (spec : DeviceSpec). offered_kind (kind_of spec)) kinds) ≡ count = length-map kinds (λ (spec : DeviceSpec). offered_kind (kind_of spec)) in
     let many = parts_count lines in
     let long = phases_are lines in
     let phases = all_phases sizes (agreed_in lines) kinds 0 (count + 1) first_gpadl 0 [] (parts lines) (λ d. size_of kinds d lines script.right) script.few script.channels (omega arith) (omega (arith, many.1, script.short, script.few)) (omega (arith, many.1, script.short)) in
@@ -259,14 +273,15 @@ plan_is lines script =
       guest = guest_version kinds lines script.right;
       host = host_version kinds lines script.right;
       few = omega (arith, each, script.few);
+      ports = no_ports kinds;
       some = omega (arith, long, many.0);
       short = omega (arith, long, many.1, script.short);
       fits = phases.fits;
       small = phases.small;
       seated = phases.seated;
-      offered = subst (λ n. All (λ os. All (λ o. is_sub o ≡ false → o.relid ≤ n) os) (plan_of lines).phases) (sym each) phases.offered;
+      offered = subst (λ n. All (λ os. All (λ o. is_later o ≡ false → o.relid ≤ n) os) (plan_of lines).phases) (sym each) phases.offered;
       rising = phases.rising;
-      later = subst (λ n. map (λ (o : Opening). o.relid) (subs_in (all_openings (plan_of lines).phases)) ≡ range_with_len (n + 1) (length (subs_in (all_openings (plan_of lines).phases)))) (sym each) (later_relids lines sizes);
+      later = subst (λ n. map (λ (o : Opening). o.relid) (laters (all_openings (plan_of lines).phases)) ≡ range_with_len (n + 1) (length (laters (all_openings (plan_of lines).phases)))) (sym each) (later_relids lines sizes);
       follow = phases.follow;
       ends = phases.ends;
     }
@@ -310,10 +325,10 @@ phases_same lines devices count script table is =
 
 -- the parts of a plan make it
 pub plan_made : (lines : List Line) (guest host : Version) (kinds : List Kind) (phases : List (List Opening)) (devices : List Served) (count : ℕ)
-    → IsScript lines → guest ≡ guest_in lines → host ≡ host_in lines → kinds ≡ map kind_of (offered lines) → phases ≡ numbered (size_in devices) first_gpadl 0 (phases_of lines)
+    → IsScript lines → guest ≡ guest_in lines → host ≡ host_in lines → kinds ≡ map (λ (spec : DeviceSpec). offered_kind (kind_of spec)) (offered lines) → phases ≡ numbered (size_in devices) first_gpadl 0 (phases_of lines)
     → devices ≡ map (served_of lines) (range_with_len 0 count) → count ≡ length kinds → (let plan : BusPlan = record { guest = guest; host = host; kinds = kinds; phases = phases } in plan) ≡ plan_of lines
 plan_made lines guest host kinds phases devices count script g h k p table is =
-    let all : phases ≡ (plan_of lines).phases = p ∙ phases_same lines devices count script table (is ∙ ap length k ∙ length-map (offered lines) kind_of) in
+    let all : phases ≡ (plan_of lines).phases = p ∙ phases_same lines devices count script table (is ∙ ap length k ∙ length-map (offered lines) (λ (spec : DeviceSpec). offered_kind (kind_of spec))) in
     (λ i. record { guest = g i; host = h i; kinds = k i; phases = all i })
 
 -- a disk has at most 3 sub-channels

@@ -1,12 +1,14 @@
 -- The channels of one side, and what the tables say of versions and classes.
-use Rattle.std.specs.Prelude.{ℕ, ◌-◌, ◌==◌, Bool, true, false, ◌&&◌, List, [], ◌∷◌, ◌++◌, slice_get, slice_set, nat_le, nat_lt, Option, Some, None, Result, Ok, Err, if◌then◌else◌}
+use Rattle.std.specs.Prelude.{ℕ, ◌-◌, ◌==◌, Bool, true, false, ◌&&◌, List, [], ◌∷◌, ◌++◌, slice_get, slice_set, take, nat_le, nat_lt, Option, Some, None, Result, Ok, Err, if◌then◌else◌}
 use Rattle.std.specs.List.{list_any, position}
 use Rattle.std.specs.Str.{bytes_eq}
+use Rattle.std.specs.Int.{from_le_bytes, w32}
 use Rattle.contact.specs.Versions.{versions}
 use Rattle.contact.specs.Classes.{class_id}
+use Rattle.contact.specs.Services.{service_id}
 use Rattle.contact.specs.declared.version.Version.{Version}
 use Rattle.contact.specs.declared.kind.Kind.{Kind}
-use Rattle.contact.specs.declared.kind.Kind.TheVariants.{Beat, Down, Disk, Net}
+use Rattle.contact.specs.declared.kind.Kind.TheVariants.{Beat, Down, Disk, Net, Sock}
 use Rattle.chan_state.specs.declared.state.State.{State}
 use Rattle.chan_state.specs.declared.event.Event.{Event}
 use Rattle.chan_state.specs.declared.event.Event.TheVariants.{WantModify}
@@ -32,21 +34,24 @@ version_below v = first_below v.0 versions
 abbrev pub accepts : Version → ℕ → Bool
 accepts highest asked = nat_le asked highest.0 && list_any (λ u. u == asked) versions
 
--- the kind with a class id, if one has it
+-- the port whose service has an id, if it is of that form: the first four bytes say it
+abbrev pub port_with : List ℕ → ℕ
+port_with id = from_le_bytes w32 (take 4 id)
+
+abbrev pub service_with : List ℕ → Option Kind
+service_with id = if bytes_eq id (service_id (port_with id)) then Some (Sock (port_with id)) else None
+
+-- the kind with a class id, if one has it: a device's, or that of the service at a port
 abbrev pub kind_with : List ℕ → Option Kind
 kind_with id =
     if bytes_eq id (class_id Beat) then Some Beat else
     if bytes_eq id (class_id Down) then Some Down else
     if bytes_eq id (class_id Disk) then Some Disk else
-    if bytes_eq id (class_id Net) then Some Net else None
+    if bytes_eq id (class_id Net) then Some Net else service_with id
 
--- two kinds are the same
+-- two kinds are the same: they have one class id
 abbrev pub same_kind : Kind → Kind → Bool
-same_kind Beat Beat = true
-same_kind Down Down = true
-same_kind Disk Disk = true
-same_kind Net Net = true
-same_kind _ _ = false
+same_kind a b = bytes_eq (class_id a) (class_id b)
 
 abbrev pub is_kind : Kind → Option Kind → Bool
 is_kind kind None = false

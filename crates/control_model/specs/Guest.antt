@@ -5,7 +5,7 @@ use Rattle.contact.specs.declared.version.Version.{Version}
 use Rattle.contact.specs.declared.part.Part.{Part}
 use Rattle.contact.specs.declared.part.Part.TheVariants.{Contact, PhaseStart, PhaseEnd, Unload}
 use Rattle.contact.specs.declared.kind.Kind.{Kind}
-use Rattle.contact.specs.declared.kind.Kind.TheVariants.{Disk}
+use Rattle.contact.specs.declared.kind.Kind.TheVariants.{Disk, Sock}
 use Rattle.contact.specs.declared.channel_offer.OfferFault.TheVariants.{Class}
 use Rattle.contact.specs.Versions.{version, IsVersion, has_modify, answers_modify}
 use Rattle.io_edge.specs.declared.side.Side.TheVariants.{Guest as GuestSide}
@@ -26,10 +26,10 @@ use Rattle.control_model.specs.declared.burst.Burst.TheVariants.{Empty, One, Two
 use Rattle.control_model.specs.declared.fault.ControlFault.{ControlFault}
 use Rattle.control_model.specs.declared.fault.ControlFault.TheVariants.{Gpadl, Relid, Offer, Unasked, Memory}
 use Rattle.control_model.specs.declared.guest_wait.GuestWait.{GuestWait}
-use Rattle.control_model.specs.declared.guest_wait.GuestWait.TheVariants.{Nothing, Response, Offers, SubOffer, Created, Opened, Modified, Torn, Rescinded, Unloaded}
+use Rattle.control_model.specs.declared.guest_wait.GuestWait.TheVariants.{Nothing, Response, Offers, SubOffer, ServiceOffer, Created, Opened, Modified, Torn, Rescinded, Unloaded}
 use Rattle.control_model.specs.declared.guest_turn.GuestTurn.{GuestTurn}
 use Rattle.control_model.specs.Plan.{BusPlan, opening_in, is_sub, is_of_sub, movers_in, vp_for, most_channels}
-use Rattle.control_model.specs.Messages.{propose, request, open_on, close, teardown, release, farewell, Sends, Fits}
+use Rattle.control_model.specs.Messages.{propose, request, connect, open_on, close, teardown, release, farewell, Sends, Fits}
 use Rattle.control_model.specs.Channels.{version_below, kind_with, same_kind, is_kind, by_relid, lived, changed, place_of_list}
 
 -- all that contracts see of a guest's control
@@ -126,10 +126,18 @@ moves_with turn answered moves = record turn { awaits = waits_moved answered mov
 abbrev pub moves_all : GuestSeen → Option Part → GuestTurn → GuestTurn
 moves_all g part turn = moves_with turn (is_answered g.version) (moves_of g turn.heard (movers_of g part))
 
--- goes on with the opening at a place, if there is one: its page list is sent; behind the last one the channels are moved
+-- the page list of an opening is sent; but where its channel is that of a service, the guest asks for it first
+abbrev pub lists : GuestTurn → ℕ → Opening → GuestTurn
+lists turn place o = record turn { awaits = Created place; burst = PageList o }
+
+abbrev pub dials_one : GuestTurn → ℕ → Opening → Option ℕ → GuestTurn
+dials_one turn place o None = lists turn place o
+dials_one turn place o (Some port) = record turn { awaits = ServiceOffer place; burst = One (connect port) }
+
+-- goes on with the opening at a place, if there is one; behind the last one the channels are moved
 abbrev pub lists_next : GuestSeen → Option Part → GuestTurn → ℕ → Option Opening → GuestTurn
 lists_next g part turn place None = moves_all g part turn
-lists_next g part turn place (Some o) = record turn { awaits = Created place; burst = PageList o }
+lists_next g part turn place (Some o) = dials_one turn place o o.dialed
 
 -- CLOSECHANNEL and GPADL_TEARDOWN, behind the one message, if any, that is sent before them
 abbrev pub and_close : Burst → Opening → Burst
@@ -214,8 +222,22 @@ sub_offered g place kind sub relid None = idle g
 sub_offered g place kind sub relid (Some o) =
     if is_sub_offer g o kind sub relid then goes_behind g (record (idle g) { heard = Offered offered_channel }) place o else idle g
 
+-- that of the service which was asked for, with the next relid: its page list is sent
+abbrev pub is_service : Kind → Option ℕ → Bool
+is_service kind None = false
+is_service kind (Some port) = same_kind (Sock port) kind
+
+abbrev pub is_service_offer : GuestSeen → Opening → Kind → ℕ → ℕ → Bool
+is_service_offer g o kind sub relid = (relid == length g.channels + 1) && (relid == o.relid) && (sub == 0) && is_service kind o.dialed
+
+abbrev pub service_offered : GuestSeen → ℕ → Kind → ℕ → ℕ → Option Opening → GuestTurn
+service_offered g place kind sub relid None = idle g
+service_offered g place kind sub relid (Some o) =
+    if is_service_offer g o kind sub relid then lists (record (idle g) { heard = Offered offered_channel }) place o else idle g
+
 abbrev pub takes_offer : GuestSeen → GuestWait → Kind → ℕ → ℕ → GuestTurn
 takes_offer g (SubOffer place) kind sub relid = sub_offered g place kind sub relid (opening_of g place)
+takes_offer g (ServiceOffer place) kind sub relid = service_offered g place kind sub relid (opening_of g place)
 takes_offer g _ kind sub relid = device_offered g kind sub relid
 
 abbrev pub on_offer : GuestSeen → List ℕ → ℕ → ℕ → Option Kind → Result GuestTurn ControlFault

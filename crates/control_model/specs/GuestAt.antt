@@ -1,5 +1,5 @@
 -- Where a guest stands, by its part and what it waits for: its channels, and what it has still to say and to hear.
-use Rattle.std.specs.Prelude.{◌≡◌, ℕ, suc, ◌+◌, ◌-◌, ◌<◌, ◌≤◌, true, false, List, [], ◌∷◌, ◌++◌, length, map, drop, replicate, Option, Some, None}
+use Rattle.std.specs.Prelude.{◌≡◌, ℕ, suc, ◌+◌, ◌-◌, ◌<◌, ◌≤◌, true, false, List, [], ◌∷◌, ◌++◌, length, map, drop, replicate, is_some, Option, Some, None}
 use Rattle.std.specs.List.{AllByRecursion, flat_map}
 use Rattle.contact.specs.declared.version.Version.{Version}
 use Rattle.contact.specs.declared.part.Part.{Part}
@@ -11,12 +11,12 @@ use Rattle.vmbus_msg.specs.declared.msg.Msg.{Msg}
 use Rattle.control_model.specs.declared.opening.Opening.{Opening}
 use Rattle.control_model.specs.declared.channel.Channel.{Channel}
 use Rattle.control_model.specs.declared.guest_wait.GuestWait.{GuestWait}
-use Rattle.control_model.specs.declared.guest_wait.GuestWait.TheVariants.{Nothing, Response, Offers, SubOffer, Created, Opened, Modified, Torn, Rescinded, Unloaded}
+use Rattle.control_model.specs.declared.guest_wait.GuestWait.TheVariants.{Nothing, Response, Offers, SubOffer, ServiceOffer, Created, Opened, Modified, Torn, Rescinded, Unloaded}
 use Rattle.control_model.specs.Plan.{BusPlan, phase_of, closing_of, is_sub, first_subs, subs_next}
-use Rattle.control_model.specs.Messages.{propose, request, delivered, open_on, opened, offer_sub, release, rescind, farewell, farewell_taken}
-use Rattle.control_model.specs.Said.{answer_to, guest_opens, host_opens_all, guest_closes, host_closes, only_sub, moved, guest_moves, host_moves, guest_in_phase, host_in_phase, from_3_0, said_by_guest, said_by_host}
+use Rattle.control_model.specs.Messages.{propose, request, delivered, created, open_on, opened, offer_sub, release, rescind, farewell, farewell_taken}
+use Rattle.control_model.specs.Said.{answer_to, guest_lists, guest_opens, host_opens_all, guest_closes, host_closes, only_sub, moved, guest_moves, host_moves, guest_in_phase, host_in_phase, from_3_0, said_by_guest, said_by_host}
 use Rattle.control_model.specs.Guest.{GuestSeen, offered_channel}
-use Rattle.control_model.specs.Stand.{At, EndsAt, offered_before, offered_by, marked, vps_before, guest_is, guest_ends, guest_before, Tries, Agreed, Meet}
+use Rattle.control_model.specs.Stand.{At, EndsAt, offered_before, offered_by, offered_for, marked, vps_before, guest_is, guest_ends, guest_before, Tries, Agreed, Meet}
 
 -- from a phase on: the phases that are left, and the farewell
 abbrev pub guest_from : BusPlan → ℕ → List Msg
@@ -35,8 +35,12 @@ contact_to_hear plan (Response v) channels = map (answer_to plan) (versions_trie
 contact_to_hear plan Offers channels = offers_from (channels + 1) (drop channels plan.kinds) ++ delivered ∷ []
 contact_to_hear plan awaits channels = []
 
--- of a phase's start: once a page list was sent, its channel is opened; once that was asked for, its answer comes, and behind that of a device's first channel
+-- of a phase's start: once a service was asked for, its channel is offered, and the page list sent; once a page list was sent, its channel is opened; once that was asked for, its answer comes, and behind that of a device's first channel
 -- the offers of its sub-channels; once all of these came, the first one's page list is sent
+abbrev pub lists_dialed : List Opening → List Msg
+lists_dialed [] = []
+lists_dialed (o ∷ os) = guest_lists o ++ flat_map guest_opens os
+
 abbrev pub opens_listed : List Opening → List Msg
 opens_listed [] = []
 opens_listed (o ∷ os) = open_on o ∷ flat_map guest_opens os
@@ -45,19 +49,25 @@ abbrev pub answers_open : List Opening → List Msg
 answers_open [] = []
 answers_open (o ∷ os) = opened o.relid o.relid ∷ (map offer_sub (subs_next (o ∷ os)) ++ host_opens_all os)
 
+abbrev pub answers_list : List Opening → List Msg
+answers_list [] = []
+answers_list (o ∷ os) = created o.relid o.gpadl ∷ answers_open (o ∷ os)
+
 -- from the first sub-channel of the device whose sub-channel has this place
 abbrev pub from_first_sub : List Opening → ℕ → List Opening → List Opening
 from_first_sub os place [] = []
 from_first_sub os place (o ∷ left) = drop (place + 1 - o.sub) os
 
 abbrev pub start_to_say : List Opening → GuestWait → List Msg
+start_to_say os (ServiceOffer place) = lists_dialed (drop place os)
 start_to_say os (Created place) = opens_listed (drop place os)
 start_to_say os (Opened place) = flat_map guest_opens (drop (suc place) os)
 start_to_say os (SubOffer place) = flat_map guest_opens (from_first_sub os place (drop place os))
 start_to_say os awaits = []
 
 abbrev pub start_to_hear : List Opening → GuestWait → List Msg
-start_to_hear os (Created place) = host_opens_all (drop place os)
+start_to_hear os (ServiceOffer place) = host_opens_all (drop place os)
+start_to_hear os (Created place) = answers_list (drop place os)
 start_to_hear os (Opened place) = answers_open (drop place os)
 start_to_hear os (SubOffer place) = map offer_sub (first_subs (drop place os)) ++ host_opens_all (from_first_sub os place (drop place os))
 start_to_hear os awaits = []
@@ -125,16 +135,18 @@ pub data GuestStands (plan : BusPlan) : Option Part → GuestWait → Option Ver
   proposes : (v : Version) → Tries plan v → GuestStands plan (Some Contact) (Response v) None []
   asks : (v : Version) (n : ℕ) → Agreed plan v → n ≤ length plan.kinds → GuestStands plan (Some Contact) Offers (Some v) (replicate n offered_channel)
   contacted : (v : Version) (channels : List Channel) → Meet plan v channels (offered_before plan 0) (guest_before (vps_before plan 0) plan 0) → GuestStands plan (Some Contact) Nothing (Some v) channels
-  -- a device's first channel is open, and some of its sub-channels were offered; a channel's page list was sent; the channel is to be opened; all channels of the phase are
+  -- a device's first channel is open, and some of its sub-channels were offered; a service was asked for; a channel's page list was sent; the channel is to be opened; all channels of the phase are
   -- open, and some of those that it moves are still to be answered; all are
   offers : (v : Version) (channels : List Channel) (phase place : ℕ) (done : List Opening) (first : Opening) (offered : List Opening) (o : Opening) (left : List Opening)
       → At plan phase place (done ++ first ∷ offered) o left → is_sub first ≡ false → AllByRecursion (λ p. is_sub p ≡ true) (offered ++ o ∷ [])
-      → Meet plan v channels (offered_by plan phase done [] + length offered) (marked (guest_is (vps_before plan phase) IsOpened) (done ++ first ∷ []) (guest_before (vps_before plan phase) plan phase))
+      → Meet plan v channels (offered_by plan phase (done ++ first ∷ []) [] + length offered) (marked (guest_is (vps_before plan phase) IsOpened) (done ++ first ∷ []) (guest_before (vps_before plan phase) plan phase))
       → GuestStands plan (Some (PhaseStart phase)) (SubOffer place) (Some v) channels
+  dials : (v : Version) (channels : List Channel) (phase place : ℕ) (done : List Opening) (o : Opening) (left : List Opening) → At plan phase place done o left → is_some o.dialed ≡ true
+      → Meet plan v channels (offered_by plan phase done (o ∷ left)) (marked (guest_is (vps_before plan phase) IsOpened) done (guest_before (vps_before plan phase) plan phase)) → GuestStands plan (Some (PhaseStart phase)) (ServiceOffer place) (Some v) channels
   lists : (v : Version) (channels : List Channel) (phase place : ℕ) (done : List Opening) (o : Opening) (left : List Opening) → At plan phase place done o left
-      → Meet plan v channels (offered_by plan phase done (o ∷ left)) (marked (guest_is (vps_before plan phase) IsOpened) done (guest_before (vps_before plan phase) plan phase)) → GuestStands plan (Some (PhaseStart phase)) (Created place) (Some v) channels
+      → Meet plan v channels (offered_for plan phase done o left) (marked (guest_is (vps_before plan phase) IsOpened) done (guest_before (vps_before plan phase) plan phase)) → GuestStands plan (Some (PhaseStart phase)) (Created place) (Some v) channels
   opens : (v : Version) (channels : List Channel) (phase place : ℕ) (done : List Opening) (o : Opening) (left : List Opening) → At plan phase place done o left
-      → Meet plan v channels (offered_by plan phase done (o ∷ left)) (marked (guest_is (vps_before plan phase) IsOpened) done (marked (guest_is (vps_before plan phase) IsOpening) (o ∷ []) (guest_before (vps_before plan phase) plan phase))) → GuestStands plan (Some (PhaseStart phase)) (Opened place) (Some v) channels
+      → Meet plan v channels (offered_for plan phase done o left) (marked (guest_is (vps_before plan phase) IsOpened) done (marked (guest_is (vps_before plan phase) IsOpening) (o ∷ []) (guest_before (vps_before plan phase) plan phase))) → GuestStands plan (Some (PhaseStart phase)) (Opened place) (Some v) channels
   moves : (v : Version) (channels : List Channel) (phase place : ℕ) (done : List Opening) (o : Opening) (left : List Opening) → phase < length plan.phases → moved plan (phase_of plan phase) ≡ done ++ o ∷ left → place ≡ length done → answers_modify v.0 ≡ true
       → Meet plan v channels (offered_before plan (suc phase)) (marked (guest_is (vps_before plan (suc phase)) IsModifying) (o ∷ left) (marked (guest_is (vps_before plan (suc phase)) IsOpened) (phase_of plan phase) (guest_before (vps_before plan (suc phase)) plan phase)))
       → GuestStands plan (Some (PhaseStart phase)) (Modified place) (Some v) channels

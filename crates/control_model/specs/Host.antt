@@ -1,6 +1,8 @@
 -- A host's control: what it waits for, what it does about each message, and what it refuses.
 use Rattle.std.specs.Prelude.{◌≡◌, ℕ, ◌+◌, ◌==◌, Bool, true, false, not, ◌&&◌, ◌||◌, List, [], ◌∷◌, ◌++◌, filter, length, map, replicate, slice_get, slice_set, ◌-◌, Option, Some, None, is_some, Result, Ok, Err, if◌then◌else◌}
 use Rattle.contact.specs.declared.version.Version.{Version}
+use Rattle.std.specs.Str.{bytes_eq}
+use Rattle.contact.specs.Services.{service_id}
 use Rattle.contact.specs.declared.part.Part.{Part}
 use Rattle.contact.specs.declared.part.Part.TheVariants.{Contact, PhaseStart, PhaseEnd, Unload}
 use Rattle.io_edge.specs.declared.side.Side.TheVariants.{Host as HostSide}
@@ -16,18 +18,18 @@ use Rattle.gpadl.specs.Assembly.{Partial, Assembly, is_live, built, fault_of}
 use Rattle.gpadl.specs.Whole.{next}
 use Rattle.vmbus_msg.specs.Grammar.{type_of}
 use Rattle.vmbus_msg.specs.declared.msg.Msg.{Msg}
-use Rattle.vmbus_msg.specs.declared.msg.Msg.TheVariants.{RequestOffers, OpenChannel, CloseChannel, GpadlHeader, GpadlBody, GpadlTeardown, RelidReleased, InitiateContact, Unload as UnloadSeen, ModifyChannel}
+use Rattle.vmbus_msg.specs.declared.msg.Msg.TheVariants.{RequestOffers, OpenChannel, CloseChannel, GpadlHeader, GpadlBody, GpadlTeardown, RelidReleased, InitiateContact, Unload as UnloadSeen, TlConnectRequest, ModifyChannel}
 use Rattle.control_model.specs.declared.opening.Opening.{Opening}
 use Rattle.control_model.specs.declared.burst.Burst.{Burst}
 use Rattle.control_model.specs.declared.burst.Burst.TheVariants.{Empty, One, Two, Offers, Opens}
 use Rattle.control_model.specs.declared.fault.ControlFault.{ControlFault}
 use Rattle.control_model.specs.declared.fault.ControlFault.TheVariants.{State as StateFault, Gpadl, Relid, Unasked}
 use Rattle.control_model.specs.declared.host_wait.HostWait.{HostWait}
-use Rattle.control_model.specs.declared.host_wait.HostWait.TheVariants.{Nothing, Contact as AwaitsContact, Request, List as AwaitsList, Open, Modify, Close, Teardown, Release, Unload as AwaitsUnload}
+use Rattle.control_model.specs.declared.host_wait.HostWait.TheVariants.{Nothing, Contact as AwaitsContact, Request, Connect, List as AwaitsList, Open, Modify, Close, Teardown, Release, Unload as AwaitsUnload}
 use Rattle.control_model.specs.declared.host_next.HostNext.{HostNext}
 use Rattle.control_model.specs.declared.host_next.Rescind.{Rescind}
 use Rattle.control_model.specs.Plan.{BusPlan, opening_in, is_sub, subs_behind, movers_in}
-use Rattle.control_model.specs.Messages.{respond, created, opened, modified, torndown, rescind, farewell_taken, Sends}
+use Rattle.control_model.specs.Messages.{respond, offer_service, created, opened, modified, torndown, rescind, farewell_taken, Sends}
 use Rattle.control_model.specs.Channels.{accepts, by_relid, row_of, stands, goes_by}
 use Rattle.control_model.specs.Guest.{can_unload, can_modify, is_answered}
 
@@ -91,10 +93,15 @@ abbrev pub waits_move : ℕ → Option Opening → HostWait
 waits_move place None = Nothing
 waits_move place (Some o) = Modify place
 
+-- waits for the page list of an opening; but where its channel is that of a service, for the guest to ask for it first
+abbrev pub waits_one : ℕ → Option ℕ → HostWait
+waits_one place None = AwaitsList place
+waits_one place (Some port) = Connect place
+
 -- waits for the opening at a place, if there is one; behind the last one the channels are moved
 abbrev pub waits_list : HostSeen → Option Part → ℕ → Option Opening → HostWait
 waits_list h part place None = waits_move 0 (mover_in h part 0)
-waits_list h part place (Some o) = AwaitsList place
+waits_list h part place (Some o) = waits_one place o.dialed
 
 -- it waits, and rescinds no channel
 abbrev pub waits : HostWait → HostNext
@@ -177,6 +184,22 @@ on_contact h _ asked = at_rest h
 abbrev pub on_request : HostSeen → HostWait → HostTurn
 on_request h Request = record (at_rest h) { awaits = Nothing; channels = map (λ kind. offered_life) h.plan.kinds; burst = Offers }
 on_request h _ = at_rest h
+
+-- TL_CONNECT_REQUEST: the channel is offered, where it is that of the service which the host waits for
+abbrev pub offers_service : HostSeen → ℕ → ℕ → ℕ → HostTurn
+offers_service h place port relid = record (at_rest h) { awaits = AwaitsList place; channels = h.channels ++ offered_life ∷ []; burst = One (offer_service port relid) }
+
+abbrev pub connects_to : HostSeen → ℕ → Opening → List ℕ → Option ℕ → HostTurn
+connects_to h place o service None = at_rest h
+connects_to h place o service (Some port) = if bytes_eq service (service_id port) then offers_service h place port o.relid else at_rest h
+
+abbrev pub connects : HostSeen → ℕ → List ℕ → Option Opening → HostTurn
+connects h place service None = at_rest h
+connects h place service (Some o) = connects_to h place o service o.dialed
+
+abbrev pub on_connect : HostSeen → HostWait → List ℕ → HostTurn
+on_connect h (Connect place) service = connects h place service (opening_for h place)
+on_connect h _ service = at_rest h
 
 -- a channel's page list came: it is created once it is whole
 abbrev pub listed : HostSeen → HostWait → Partial → HostWait
@@ -344,6 +367,7 @@ host_hears h (GpadlTeardown padding relid gpadl) = on_teardown h relid gpadl (by
 host_hears h (RelidReleased padding relid) = on_release h relid (by_relid h.channels relid)
 host_hears h (InitiateContact padding asked target_vcpu page monitor1 monitor2) = Ok (on_contact h h.awaits asked)
 host_hears h (UnloadSeen padding) = Ok (on_unload h h.awaits)
+host_hears h (TlConnectRequest padding guest_endpoint host_service) = Ok (on_connect h h.awaits host_service)
 host_hears h m = Err (Unasked (type_of m))
 
 -- a host after a turn in which it sent these messages, and was fed these

@@ -1,5 +1,5 @@
 -- Where a host stands, by its part and what it waits for: its channels and its page lists, and what it has still to say and to hear.
-use Rattle.std.specs.Prelude.{◌≡◌, ℕ, suc, ◌<◌, ◌==◌, not, true, false, List, [], ◌∷◌, ◌++◌, length, map, drop, filter, Option, Some, None}
+use Rattle.std.specs.Prelude.{◌≡◌, ℕ, suc, ◌<◌, ◌==◌, not, true, false, is_some, List, [], ◌∷◌, ◌++◌, length, map, drop, filter, Option, Some, None}
 use Rattle.std.specs.List.{flat_map, list_any}
 use Rattle.contact.specs.declared.version.Version.{Version}
 use Rattle.contact.specs.declared.part.Part.{Part}
@@ -14,13 +14,13 @@ use Rattle.gpadl.specs.Cut.{cut}
 use Rattle.vmbus_msg.specs.declared.msg.Msg.{Msg}
 use Rattle.control_model.specs.declared.opening.Opening.{Opening}
 use Rattle.control_model.specs.declared.host_wait.HostWait.{HostWait}
-use Rattle.control_model.specs.declared.host_wait.HostWait.TheVariants.{Nothing, Contact as AwaitsContact, Request, List as AwaitsList, Open, Modify, Close, Teardown, Release, Unload as AwaitsUnload}
+use Rattle.control_model.specs.declared.host_wait.HostWait.TheVariants.{Nothing, Contact as AwaitsContact, Request, Connect, List as AwaitsList, Open, Modify, Close, Teardown, Release, Unload as AwaitsUnload}
 use Rattle.control_model.specs.Plan.{BusPlan, phase_of, closing_of, vp_for}
 use Rattle.control_model.specs.Messages.{propose, request, delivered, pages_from, teardown, release, farewell, farewell_taken}
-use Rattle.control_model.specs.Said.{answer_to, host_opens_all, moved, guest_moves, host_moves, guest_closes, host_closes, only_sub, ends_given_back, said_by_guest, said_by_host}
+use Rattle.control_model.specs.Said.{answer_to, guest_opens, host_opens_all, moved, guest_moves, host_moves, guest_closes, host_closes, only_sub, ends_given_back, said_by_guest, said_by_host}
 use Rattle.control_model.specs.Host.{HostSeen}
-use Rattle.control_model.specs.Stand.{At, EndsAt, offered_before, offered_by, marked, vps_before, host_is, host_ends, host_before, Tries, Agreed, Meet, handles}
-use Rattle.control_model.specs.GuestAt.{guest_from, host_from, opens_listed, answers_open, gives_one}
+use Rattle.control_model.specs.Stand.{At, EndsAt, offered_before, offered_by, offered_for, marked, vps_before, host_is, host_ends, host_before, Tries, Agreed, Meet, handles}
+use Rattle.control_model.specs.GuestAt.{guest_from, host_from, opens_listed, answers_list, answers_open, gives_one}
 
 -- of the contact, where these versions are still to be tried
 abbrev pub host_contact_to_say : BusPlan → HostWait → List ℕ → List Msg
@@ -35,11 +35,13 @@ host_contact_to_hear awaits tried = []
 
 -- of a phase's start, where these messages of a page list are still to come: the channel is opened behind them
 abbrev pub host_start_to_say : List Opening → HostWait → List Msg
-host_start_to_say os (AwaitsList place) = host_opens_all (drop place os)
+host_start_to_say os (Connect place) = host_opens_all (drop place os)
+host_start_to_say os (AwaitsList place) = answers_list (drop place os)
 host_start_to_say os (Open place) = answers_open (drop place os)
 host_start_to_say os awaits = []
 
 abbrev pub host_start_to_hear : List Opening → HostWait → List Msg → List Msg
+host_start_to_hear os (Connect place) pieces = flat_map guest_opens (drop place os)
 host_start_to_hear os (AwaitsList place) pieces = pieces ++ opens_listed (drop place os)
 host_start_to_hear os (Open place) pieces = opens_listed (drop place os)
 host_start_to_hear os awaits pieces = []
@@ -120,12 +122,14 @@ pub data HostStands (plan : BusPlan) : Option Part → HostWait → Option Versi
   answers : (v : Version) → Tries plan v → HostStands plan (Some Contact) AwaitsContact None [] (live_ones []) (versions_tried v.0 plan.host.0) []
   accepts : (v : Version) → Agreed plan v → HostStands plan (Some Contact) Request (Some v) [] (live_ones []) [] []
   contacted : (v : Version) (channels : List ChanState) → Meet plan v channels (offered_before plan 0) (host_before (vps_before plan 0) plan 0) → HostStands plan (Some Contact) Nothing (Some v) channels (live_ones []) [] []
-  -- a channel's page list comes; the channel is to be opened; all channels of the phase are open, and some of those that it moves are still
+  -- a service is to be asked for; a channel's page list comes; the channel is to be opened; all channels of the phase are open, and some of those that it moves are still
   -- to be moved; all are
+  connects : (v : Version) (channels : List ChanState) (phase place : ℕ) (done : List Opening) (o : Opening) (left : List Opening) → At plan phase place done o left → is_some o.dialed ≡ true
+      → Meet plan v channels (offered_by plan phase done (o ∷ left)) (marked (host_is (vps_before plan phase) Opened) done (host_before (vps_before plan phase) plan phase)) → HostStands plan (Some (PhaseStart phase)) (Connect place) (Some v) channels (live_ones (handles done)) [] []
   lists : (v : Version) (channels : List ChanState) (phase place : ℕ) (done : List Opening) (o : Opening) (left : List Opening) (assembly : Assembly) (m : Msg) (ms : List Msg) → At plan phase place done o left
-      → Meet plan v channels (offered_by plan phase done (o ∷ left)) (marked (host_is (vps_before plan phase) Opened) done (host_before (vps_before plan phase) plan phase)) → ListComes done o assembly (m ∷ ms) → HostStands plan (Some (PhaseStart phase)) (AwaitsList place) (Some v) channels assembly [] (m ∷ ms)
+      → Meet plan v channels (offered_for plan phase done o left) (marked (host_is (vps_before plan phase) Opened) done (host_before (vps_before plan phase) plan phase)) → ListComes done o assembly (m ∷ ms) → HostStands plan (Some (PhaseStart phase)) (AwaitsList place) (Some v) channels assembly [] (m ∷ ms)
   listed : (v : Version) (channels : List ChanState) (phase place : ℕ) (done : List Opening) (o : Opening) (left : List Opening) → At plan phase place done o left
-      → Meet plan v channels (offered_by plan phase done (o ∷ left)) (marked (host_is (vps_before plan phase) Opened) done (host_before (vps_before plan phase) plan phase)) → HostStands plan (Some (PhaseStart phase)) (Open place) (Some v) channels (live_ones (handles (done ++ o ∷ []))) [] []
+      → Meet plan v channels (offered_for plan phase done o left) (marked (host_is (vps_before plan phase) Opened) done (host_before (vps_before plan phase) plan phase)) → HostStands plan (Some (PhaseStart phase)) (Open place) (Some v) channels (live_ones (handles (done ++ o ∷ []))) [] []
   moves : (v : Version) (channels : List ChanState) (phase place : ℕ) (done : List Opening) (o : Opening) (left : List Opening) → phase < length plan.phases → moved plan (phase_of plan phase) ≡ done ++ o ∷ left → place ≡ length done
       → Meet plan v channels (offered_before plan (suc phase)) (marked (host_is (marked vp_for done (vps_before plan phase)) Opened) (phase_of plan phase) (host_before (marked vp_for done (vps_before plan phase)) plan phase))
       → HostStands plan (Some (PhaseStart phase)) (Modify place) (Some v) channels (live_ones (handles (phase_of plan phase))) [] []

@@ -5,6 +5,7 @@ pub mod Channels
 pub mod Guest
 pub mod Host
 pub mod Openings
+pub mod Sock
 pub mod Dealing
 pub mod Said
 pub mod Stand

@@ -2,8 +2,9 @@
 use Rattle.std.specs.Prelude.{◌≡◌, ℕ, ◌+◌, List, [], ◌∷◌, ◌++◌, map, replicate}
 use Rattle.std.specs.List.{range_with_len}
 use Rattle.vmbus_msg.specs.declared.msg.Msg.{Msg}
-use Rattle.vmbus_msg.specs.declared.msg.Msg.TheVariants.{RequestOffers, AllOffersDelivered, OpenChannel, OpenChannelResult, CloseChannel, RescindChannelOffer, GpadlCreated, GpadlTeardown, GpadlTorndown, RelidReleased, InitiateContact, VersionResponse, Unload, UnloadResponse, ModifyChannel, ModifyChannelResponse}
-use Rattle.contact.specs.declared.kind.Kind.TheVariants.{Disk}
+use Rattle.vmbus_msg.specs.declared.msg.Msg.TheVariants.{RequestOffers, AllOffersDelivered, OpenChannel, OpenChannelResult, CloseChannel, RescindChannelOffer, GpadlCreated, GpadlTeardown, GpadlTorndown, RelidReleased, InitiateContact, VersionResponse, Unload, UnloadResponse, TlConnectRequest, ModifyChannel, ModifyChannelResponse}
+use Rattle.contact.specs.declared.kind.Kind.TheVariants.{Disk, Sock}
+use Rattle.contact.specs.Services.{service_id}
 use Rattle.contact.specs.Classes.{offer, offers_from}
 use Rattle.gpadl.specs.Cut.{AreMessagesOf}
 use Rattle.control_model.specs.declared.opening.Opening.{Opening}
@@ -26,6 +27,14 @@ request = RequestOffers 0
 
 abbrev pub delivered : Msg
 delivered = AllOffersDelivered 0
+
+-- the guest asks for the channel of the service at a port: of the two ends the guest's has port 1
+abbrev pub connect : ℕ → Msg
+connect port = TlConnectRequest 0 (service_id 1) (service_id port)
+
+-- the host offers it
+abbrev pub offer_service : ℕ → ℕ → Msg
+offer_service port relid = offer (Sock port) relid 0
 
 -- the pages of a list, from its first one on
 abbrev pub pages_from : Opening → List ℕ

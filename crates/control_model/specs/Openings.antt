@@ -1,6 +1,7 @@
 -- The plan of a script.
 use Rattle.std.specs.Prelude.{ℕ, ◌+◌, ◌==◌, List, [], ◌∷◌, length, map, Option, None, if◌then◌else◌}
 use Rattle.script_lines.specs.declared.line.Line.{Line}
+use Rattle.contact.specs.Classes.{offered_kind}
 use Rattle.script_lines.specs.Parts.{offered, kind_of, ring_pages_of}
 use Rattle.script_phases.specs.Agreed.{guest_in, host_in}
 use Rattle.script_phases.specs.Says.{is_rescinded, vp_of}
@@ -21,7 +22,7 @@ vp_at vp sub = if sub == 0 then vp else None
 abbrev pub openings_from : (ℕ → ℕ) → (ℕ → Fate) → ℕ → ℕ → List PhaseOpening → List Opening
 openings_from sizes fates gpadl page [] = []
 openings_from sizes fates gpadl page (o ∷ os) =
-    record { relid = o.relid; sub = o.sub; ring_pages = sizes o.device; gpadl = gpadl; first_page = page; rescinded = (fates o.device).rescinded; vp = vp_at (fates o.device).vp o.sub }
+    record { relid = o.relid; sub = o.sub; ring_pages = sizes o.device; gpadl = gpadl; first_page = page; rescinded = (fates o.device).rescinded; vp = vp_at (fates o.device).vp o.sub; dialed = None }
     ∷ openings_from sizes fates (gpadl + 1) (page + list_pages (sizes o.device)) os
 
 abbrev pub pages_in : (ℕ → ℕ) → List PhaseOpening → ℕ
@@ -39,6 +40,6 @@ abbrev pub plan_of : List Line → BusPlan
 plan_of lines = record {
   guest = guest_in lines;
   host = host_in lines;
-  kinds = map kind_of (offered lines);
+  kinds = map (λ spec. offered_kind (kind_of spec)) (offered lines);
   phases = numbered (λ d. ring_pages_of d lines) first_gpadl 0 (phases lines);
 }

@@ -1,10 +1,11 @@
 -- What both controls know of a script from the start.
-use Rattle.std.specs.Prelude.{◌≡◌, ◌<◌, ◌≤◌, ◌^◌, All, ℕ, Bool, true, false, not, ◌+◌, ◌*◌, ◌==◌, List, [], ◌∷◌, ◌++◌, drop, filter, length, map, slice_get, slice_index_or, nat_lt, Option, Some, None, is_some, if◌then◌else◌}
+use Rattle.std.specs.Prelude.{◌≡◌, ◌<◌, ◌≤◌, ◌^◌, All, ℕ, Bool, true, false, not, ◌+◌, ◌*◌, ◌==◌, ◌&&◌, List, [], ◌∷◌, ◌++◌, drop, filter, length, map, slice_get, slice_index_or, nat_lt, Option, Some, None, is_some, if◌then◌else◌}
 use Rattle.std.specs.Option.{option_map_or}
 use Rattle.std.specs.List.{range_with_len}
 use Rattle.contact.specs.Versions.{IsVersion}
 use Rattle.contact.specs.declared.version.Version.{Version}
 use Rattle.contact.specs.declared.kind.Kind.{Kind}
+use Rattle.contact.specs.declared.kind.Kind.TheVariants.{Sock}
 use Rattle.contact.specs.declared.part.Part.{Part}
 use Rattle.contact.specs.declared.part.Part.TheVariants.{Contact, PhaseStart, PhaseEnd, Unload}
 use Rattle.control_model.specs.declared.opening.Opening.{Opening}
@@ -31,6 +32,14 @@ is_sub o = not (o.sub == 0)
 abbrev pub is_of_sub : Option Opening → Bool
 is_of_sub None = false
 is_of_sub (Some o) = is_sub o
+
+-- the channel of an opening is offered at the contact: it is a device's first channel, which is neither a sub-channel nor that of a service that the guest asks for
+abbrev pub at_contact : Opening → Bool
+at_contact o = not (is_some o.dialed) && (o.sub == 0)
+
+-- the others are offered later, each when its turn comes
+abbrev pub is_later : Opening → Bool
+is_later o = not (at_contact o)
 
 -- the sub-channels that these openings begin with, up to the next device's first channel
 abbrev pub first_subs : List Opening → List Opening
@@ -93,32 +102,43 @@ part_after plan (Some Unload) = None
 abbrev pub list_pages : ℕ → ℕ
 list_pages ring_pages = 2 * ring_pages + 2
 
+-- a port has 32 bits
+abbrev pub IsPort : Option ℕ → Type 0
+IsPort None = Unit {0}
+IsPort (Some port) = port < 2 ^ 32
+
+abbrev pub HasPort : Kind → Type 0
+HasPort (Sock port) = port < 2 ^ 32
+HasPort kind = Unit {0}
+
 -- at most 16 devices are offered at first, and each of the phases, which are at most 20,001, opens at most 16 channels
 abbrev pub most_channels : ℕ
 most_channels = 320032
 
--- an opening of a channel: its rings have 1 to 16 data pages, and its list has pages with numbers of 64 bits
+-- an opening of a channel: its rings have 1 to 16 data pages, and its list has pages with numbers of 64 bits; the channel of a service that the guest asks for is no sub-channel
 pub record IsOpening (o : Opening) : Type 0 where
   pub named : 1 ≤ o.relid
   pub few : o.relid ≤ most_channels
   pub some_pages : 1 ≤ o.ring_pages
   pub few_pages : o.ring_pages ≤ 16
   pub numbered : o.first_page + list_pages o.ring_pages < 2 ^ 64
+  pub alone : is_some o.dialed ≡ true → is_sub o ≡ false
+  pub port : IsPort o.dialed
 
--- the first channels of devices
+-- those whose channels are offered at the contact
 abbrev pub firsts : List Opening → List Opening
-firsts os = filter (λ o. o.sub == 0) os
+firsts os = filter at_contact os
 
--- the sub-channels of devices
-abbrev pub subs_in : List Opening → List Opening
-subs_in os = filter is_sub os
+-- those whose channels are offered later
+abbrev pub laters : List Opening → List Opening
+laters os = filter is_later os
 
 -- each channel of a device stands behind the one before, with the next number among the device's channels: where the next one is a sub-channel, it has this number
 abbrev pub Seated : ℕ → List Opening → Type 0
 Seated next [] = Unit {0}
 Seated next (o ∷ os) = (is_sub o ≡ true → o.sub ≡ next) × Seated (o.sub + 1) os
 
--- the relids of a phase's first channels rise
+-- the relids rise
 abbrev pub Rising : ℕ → List Opening → Type 0
 Rising least [] = Unit {0}
 Rising least (o ∷ os) = (least ≤ o.relid) × Rising (o.relid + 1) os
@@ -145,18 +165,19 @@ all_openings (os ∷ phases) = os ++ all_openings phases
 abbrev pub first_gpadl : ℕ
 first_gpadl = 0xE1E10
 
--- What every plan keeps: versions of the list, at most 16 devices, whose first channels are opened in order of offer in each phase, each with its sub-channels right behind it; sub-channels have the relids behind those of the devices, one after the other over all phases; handles, page numbers and the relids of sub-channels are never used twice; and a channel that was rescinded isn't opened again
+-- What every plan keeps: versions of the list, at most 16 devices, whose first channels are opened in order of offer in each phase, each with its sub-channels right behind it; channels that are offered later have the relids behind those of the devices, one after the other over all phases; handles, page numbers and these relids are never used twice; and a channel that was rescinded isn't opened again
 pub record IsPlan (p : BusPlan) : Type 0 where
   pub guest : IsVersion p.guest.0
   pub host : IsVersion p.host.0
   pub few : length p.kinds ≤ 16
+  pub ports : All HasPort p.kinds
   pub some : 1 ≤ length p.phases
   pub short : length p.phases ≤ 20001
   pub fits : All (λ os. All (λ o. IsOpening o) os) p.phases
   pub small : All (λ os. length os ≤ 16) p.phases
   pub seated : All (λ os. Seated 0 os) p.phases
-  pub offered : All (λ os. All (λ o. is_sub o ≡ false → o.relid ≤ length p.kinds) os) p.phases
+  pub offered : All (λ os. All (λ o. is_later o ≡ false → o.relid ≤ length p.kinds) os) p.phases
   pub rising : All (λ os. Rising 1 (firsts os)) p.phases
-  pub later : map (λ o. o.relid) (subs_in (all_openings p.phases)) ≡ range_with_len (length p.kinds + 1) (length (subs_in (all_openings p.phases)))
+  pub later : map (λ o. o.relid) (laters (all_openings p.phases)) ≡ range_with_len (length p.kinds + 1) (length (laters (all_openings p.phases)))
   pub follow : Follows first_gpadl 0 (all_openings p.phases)
   pub ends : RescindsEnd p.phases

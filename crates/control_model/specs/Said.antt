@@ -1,5 +1,5 @@
 -- All that a guest and its host say to each other over a plan, in order, and where its channels stand then.
-use Rattle.std.specs.Prelude.{ℕ, ◌+◌, ◌==◌, ◌&&◌, ◌||◌, Bool, min, nat_le, List, [], ◌∷◌, ◌++◌, length, map, if◌then◌else◌}
+use Rattle.std.specs.Prelude.{ℕ, ◌+◌, ◌==◌, ◌&&◌, ◌||◌, Bool, min, nat_le, List, [], ◌∷◌, ◌++◌, length, map, Option, Some, None, if◌then◌else◌}
 use Rattle.std.specs.List.{flat_map, list_any, range_with_len}
 use Rattle.contact.specs.Versions.{version, versions_tried, has_modify, answers_modify}
 use Rattle.contact.specs.Classes.{offers_from}
@@ -8,8 +8,8 @@ use Rattle.chan_state.specs.declared.state.State.TheVariants.{Offered, Closed, R
 use Rattle.gpadl.specs.Cut.{cut}
 use Rattle.vmbus_msg.specs.declared.msg.Msg.{Msg}
 use Rattle.control_model.specs.declared.opening.Opening.{Opening}
-use Rattle.control_model.specs.Plan.{BusPlan, is_sub, subs_next, subs_in, in_closing_order, all_openings, movers, vp_for}
-use Rattle.control_model.specs.Messages.{propose, respond, request, delivered, pages_from, created, open_on, opened, offer_sub, modify, modified, close, teardown, torndown, rescind, release, farewell, farewell_taken}
+use Rattle.control_model.specs.Plan.{BusPlan, is_sub, subs_next, laters, in_closing_order, all_openings, movers, vp_for}
+use Rattle.control_model.specs.Messages.{propose, respond, request, delivered, connect, offer_service, pages_from, created, open_on, opened, offer_sub, modify, modified, close, teardown, torndown, rescind, release, farewell, farewell_taken}
 
 -- the version that both agree on
 abbrev pub agreed : BusPlan → ℕ
@@ -26,12 +26,24 @@ answer_to plan v = respond (if nat_le v plan.host.0 then 1 else 0)
 abbrev pub host_contacts : BusPlan → List Msg
 host_contacts plan = map (answer_to plan) (versions_tried plan.guest.0 plan.host.0) ++ (offers_from 1 plan.kinds ++ delivered ∷ [])
 
+-- the channel of a service is asked for first, and offered then
+abbrev pub dials : Option ℕ → List Msg
+dials None = []
+dials (Some port) = connect port ∷ []
+
+abbrev pub dial_offers : ℕ → Option ℕ → List Msg
+dial_offers relid None = []
+dial_offers relid (Some port) = offer_service port relid ∷ []
+
 -- a channel is opened: the guest sends its page list, which the host knows then, and opens it on that list, which the host answers
+abbrev pub guest_lists : Opening → List Msg
+guest_lists o = cut o.relid o.gpadl (pages_from o) ++ open_on o ∷ []
+
 abbrev pub guest_opens : Opening → List Msg
-guest_opens o = cut o.relid o.gpadl (pages_from o) ++ open_on o ∷ []
+guest_opens o = dials o.dialed ++ guest_lists o
 
 abbrev pub host_opens : Opening → List Msg
-host_opens o = created o.relid o.gpadl ∷ opened o.relid o.relid ∷ []
+host_opens o = dial_offers o.relid o.dialed ++ (created o.relid o.gpadl ∷ opened o.relid o.relid ∷ [])
 
 -- once a device's first channel is open, the host offers its sub-channels together; each channel is opened in its turn
 abbrev pub host_opens_all : List Opening → List Msg
@@ -93,9 +105,9 @@ is_given_back plan relid = list_any (λ o. (o.relid == relid) && ends_given_back
 abbrev pub last_state : BusPlan → ℕ → State
 last_state plan relid = if is_given_back plan relid then Released else if is_opened plan relid then Closed else Offered
 
--- how many channels are offered in all: one for each device, and the sub-channels that the phases open
+-- how many channels are offered in all: one for each device, and those of the phases that are offered later
 abbrev pub channel_count : BusPlan → ℕ
-channel_count plan = length plan.kinds + length (subs_in (all_openings plan.phases))
+channel_count plan = length plan.kinds + length (laters (all_openings plan.phases))
 
 -- where all channels stand at the end, in order of relid
 abbrev pub at_end : BusPlan → List State

@@ -1,5 +1,5 @@
 -- Where the channels of a side stand, and the versions that a guest tries.
-use Rattle.std.specs.Prelude.{◌≡◌, ℕ, zero, suc, ◌+◌, ◌<◌, ◌≤◌, ◌==◌, Bool, true, false, List, [], ◌∷◌, ◌++◌, length, map, take, Some, if◌then◌else◌}
+use Rattle.std.specs.Prelude.{◌≡◌, ℕ, zero, suc, ◌+◌, ◌<◌, ◌≤◌, ◌==◌, Bool, true, false, List, [], ◌∷◌, ◌++◌, length, map, take, Option, Some, None, if◌then◌else◌}
 use Rattle.contact.specs.declared.version.Version.{Version}
 use Rattle.contact.specs.Versions.{IsVersion}
 use Rattle.io_edge.specs.declared.side.Side.TheVariants.{Guest as GuestSide, Host as HostSide}
@@ -8,7 +8,7 @@ use Rattle.chan_state.specs.declared.state.State.TheVariants.{Offered, Closed, R
 use Rattle.chan_state.specs.declared.chan_state.ChanState.{ChanState}
 use Rattle.control_model.specs.declared.opening.Opening.{Opening}
 use Rattle.control_model.specs.declared.channel.Channel.{Channel}
-use Rattle.control_model.specs.Plan.{BusPlan, phase_of, closing_of, first_subs, subs_in, all_openings, vp_for}
+use Rattle.control_model.specs.Plan.{BusPlan, phase_of, closing_of, first_subs, laters, all_openings, vp_for}
 use Rattle.control_model.specs.Channels.{by_relid}
 use Rattle.control_model.specs.Guest.{offered_channel}
 use Rattle.control_model.specs.Said.{ends_given_back, moved}
@@ -25,13 +25,21 @@ pub record EndsAt (plan : BusPlan) (phase place : ℕ) (done : List Opening) (o 
   pub closing_is : closing_of plan phase ≡ done ++ o ∷ left
   pub place_is : place ≡ length done
 
--- how many channels are offered before a phase: one for each device, and the sub-channels of earlier phases
+-- how many channels are offered before a phase: one for each device, and those of earlier phases that were offered later
 abbrev pub offered_before : BusPlan → ℕ → ℕ
-offered_before plan phase = length plan.kinds + length (subs_in (all_openings (take phase plan.phases)))
+offered_before plan phase = length plan.kinds + length (laters (all_openings (take phase plan.phases)))
 
--- and while it starts, where these openings are done and these are left: the sub-channels of the devices whose first channels are open
+-- and while it starts, where these openings are done and these are left: those that were offered for them, and the sub-channels of the device whose first channel is open
 abbrev pub offered_by : BusPlan → ℕ → List Opening → List Opening → ℕ
-offered_by plan phase done left = offered_before plan phase + (length (subs_in done) + length (first_subs left))
+offered_by plan phase done left = offered_before plan phase + (length (laters done) + length (first_subs left))
+
+-- once the channel of the next one was offered too, where the guest asks for its service
+abbrev pub count_dialed : Option ℕ → ℕ
+count_dialed None = 0
+count_dialed (Some port) = 1
+
+abbrev pub offered_for : BusPlan → ℕ → List Opening → Opening → List Opening → ℕ
+offered_for plan phase done o left = offered_by plan phase done (o ∷ left) + count_dialed o.dialed
 
 -- the channels of these openings stand so, and each other one as it did
 abbrev pub marked : {X : Type 0} → (Opening → X) → List Opening → (ℕ → X) → ℕ → X

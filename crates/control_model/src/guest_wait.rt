@@ -14,6 +14,8 @@ pub enum GuestWait {
     Offers,
     /// OFFERCHANNEL, for the sub-channel of this opening.
     SubOffer(usize),
+    /// OFFERCHANNEL, for the service that was asked for, whose channel is that of this opening.
+    ServiceOffer(usize),
     /// GPADL_CREATED, for the page list of this opening.
     Created(usize),
     /// OPENCHANNEL_RESULT, for the channel of this opening.

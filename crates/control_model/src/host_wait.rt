@@ -11,6 +11,8 @@ pub enum HostWait {
     Contact,
     /// REQUESTOFFERS.
     Request,
+    /// TL_CONNECT_REQUEST, for the service whose channel is that of this opening.
+    Connect(usize),
     /// GPADL_HEADER and its bodies, for the page list of this opening.
     List(usize),
     /// OPENCHANNEL, for the channel of this opening.

@@ -32,5 +32,5 @@ pub use host_wait::HostWait;
 pub use moves::{Move, Moves};
 pub use opening::Opening;
 pub use plan::ControlPlan;
-pub use sending::{messages, open_on, release, teardown, type_of};
+pub use sending::{connect, messages, offer_service, open_on, release, teardown, type_of};
 pub use version::version_below;

@@ -19,4 +19,7 @@ pub struct Opening {
     /// The virtual processor that the channel's interrupts are moved to once all channels of the
     /// phase are open, if they are: only a device's first channel is moved.
     pub vp: Option<u32>,
+    /// The port of the service that the guest asks for, where this is its channel: the host offers it
+    /// then, and doesn't at the contact.
+    pub dialed: Option<u32>,
 }

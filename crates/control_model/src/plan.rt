@@ -1,13 +1,14 @@
-//! What both controls know of a script from the start.
+//! What both controls know from the start.
 ghost use Rattle.std.specs.Prelude.{◌≡◌, ◌+◌, ◌^◌, ◌<◌, ◌≤◌, ◌==◌, drop, length, slice_get, IfOk, IfSome, OnSome, IsTrue};
 ghost use Rattle.std.specs.List.{position};
 ghost use Rattle.contact.specs.Versions.{IsVersion};
 ghost use Rattle.control_model.specs.Plan.{phase_of, opening_at, closing_at, opening_in, first_subs, subs_next, subs_behind, movers, movers_in, part_after, IsOpening, Seated};
 ghost use Rattle.control_model.specs.Dealing.{is_first_at, closing_place};
 ghost use Rattle.control_model.specs.Openings.{plan_of};
+ghost use Rattle.control_model.specs.Sock.{sock_plan};
 
 use crate::Opening;
-use crate::planning::{kinds, phases, specs, table_of, versions};
+use crate::planning::{FIRST_GPADL, HIGHEST, kinds, phases, specs, table_of, versions};
 use bus_script::Script;
 use contact::{Kind, Part, Version};
 use std::alloc::{AllocError, Global};
@@ -48,6 +49,33 @@ impl ControlPlan {
             guest,
             host,
             kinds,
+            phases,
+        })
+    }
+
+    /// The plan of a socket of the service at a port: both ends have 5.2, no device is offered, and the
+    /// one phase opens the service's channel, which the guest asks for. Its rings have 16 pages, and the
+    /// host rescinds it at the end of the phase.
+    pub fn of_sock(alloc: Global, port: u32) -> Result<ControlPlan, AllocError>
+        ensures { IfOk result (λ plan. plan ≡ sock_plan port) }
+    {
+        let mut openings = Vec::with_capacity(alloc, 1)?;
+        openings.push_reserved(Opening {
+            relid: 1,
+            sub: 0,
+            ring_pages: 16,
+            gpadl: FIRST_GPADL,
+            first_page: 0,
+            rescinded: true,
+            vp: None,
+            dialed: Some(port),
+        });
+        let mut phases = Vec::with_capacity(alloc, 1)?;
+        phases.push_reserved(openings);
+        Ok(ControlPlan {
+            guest: HIGHEST,
+            host: HIGHEST,
+            kinds: Vec::new(alloc),
             phases,
         })
     }

@@ -1,7 +1,8 @@
 //! The plan of a script.
-ghost use Rattle.std.specs.Prelude.{◌≡◌, ◌+◌, ◌*◌, ◌^◌, ◌<◌, ◌≤◌, All, [], ◌∷◌, ◌++◌, ℕ, length, map, take, slice_range, IfOk, OnOk};
+ghost use Rattle.std.specs.Prelude.{◌≡◌, ◌+◌, ◌*◌, ◌^◌, ◌<◌, ◌≤◌, All, [], ◌∷◌, ◌++◌, ℕ, length, map, take, slice_range, None, IfOk, OnOk};
 ghost use Rattle.std.specs.Option.{option_to_list};
 ghost use Rattle.std.specs.List.{list_any, position, range_with_len};
+ghost use Rattle.contact.specs.Classes.{offered_kind};
 ghost use Rattle.script_lines.specs.Lines.{is_phase};
 ghost use Rattle.script_lines.specs.Parts.{offered_by, offered, kind_of, ring_pages_of, rescinds, shuts};
 ghost use Rattle.script_phases.specs.Openings.{phases, subs_of, opened_from, others};
@@ -12,14 +13,14 @@ ghost use Rattle.control_model.specs.Dealing.{served_of, speaks_to, channels_if,
 
 use crate::Opening;
 use bus_script::{DeviceSpec, Line, What};
-use contact::{Kind, Version};
+use contact::{DeviceKind, Kind, Version, offered_kind};
 use std::alloc::{AllocError, Global};
 
 // The highest version of both ends where a script says none, 5.2.
-const HIGHEST: Version = Version(0x0005_0002);
+pub const HIGHEST: Version = Version(0x0005_0002);
 
 // The handle of the first page list.
-const FIRST_GPADL: u32 = 0xE1E10;
+pub const FIRST_GPADL: u32 = 0xE1E10;
 
 /// The highest versions of the guest and of its host.
 pub fn versions(lines: &[Line]) -> (Version, Version)
@@ -36,7 +37,7 @@ pub fn versions(lines: &[Line]) -> (Version, Version)
 
 /// The kinds of the devices, in order of offer.
 pub fn kinds(alloc: Global, lines: &[Line]) -> Result<Vec<Kind>, AllocError>
-    ensures { IfOk result (λ kinds. kinds.items ≡ map kind_of (offered lines.now)) }
+    ensures { IfOk result (λ kinds. kinds.items ≡ map (λ spec. offered_kind (kind_of spec)) (offered lines.now)) }
 {
     let mut kinds = Vec::new(alloc);
     for line in lines {
@@ -62,23 +63,23 @@ pub fn specs(alloc: Global, lines: &[Line]) -> Result<Vec<DeviceSpec>, AllocErro
 
 // The kind of device that a line offers.
 fn kind_offered(what: &What) -> Option<Kind>
-    ensures { option_to_list result ≡ map kind_of (offered_by what.now) }
+    ensures { option_to_list result ≡ map (λ spec. offered_kind (kind_of spec)) (offered_by what.now) }
 {
     match what {
-        What::Offer { device, .. } => Some(kind_of(*device)),
+        What::Offer { device, .. } => Some(offered_kind(kind_of(*device))),
         _ => None,
     }
 }
 
 // The kind of a device.
-fn kind_of(device: DeviceSpec) -> Kind
+fn kind_of(device: DeviceSpec) -> DeviceKind
     ensures { result ≡ kind_of device }
 {
     match device {
-        DeviceSpec::Beat => Kind::Beat,
-        DeviceSpec::Down => Kind::Down,
-        DeviceSpec::Disk { .. } => Kind::Disk,
-        DeviceSpec::Net { .. } => Kind::Net,
+        DeviceSpec::Beat => DeviceKind::Beat,
+        DeviceSpec::Down => DeviceKind::Down,
+        DeviceSpec::Disk { .. } => DeviceKind::Disk,
+        DeviceSpec::Net { .. } => DeviceKind::Net,
     }
 }
 
@@ -324,7 +325,7 @@ fn open(
     requires size { ring_pages ≤ 16 }
     requires gpadl { next.old.gpadl + 1 < 2 ^ 32 }
     requires page { next.old.page + 34 < 2 ^ 64 }
-    ensures opened { OnOk result (openings.new.items ≡ openings.old.items ++ record { relid = relid; sub = sub; ring_pages = ring_pages; gpadl = next.old.gpadl; first_page = next.old.page; rescinded = fate.rescinded; vp = vp_at fate.vp sub } ∷ []) }
+    ensures opened { OnOk result (openings.new.items ≡ openings.old.items ++ record { relid = relid; sub = sub; ring_pages = ring_pages; gpadl = next.old.gpadl; first_page = next.old.page; rescinded = fate.rescinded; vp = vp_at fate.vp sub; dialed = None } ∷ []) }
     ensures next { OnOk result (next.new ≡ record { gpadl = next.old.gpadl + 1; page = next.old.page + list_pages ring_pages; relid = next.old.relid }) }
 {
     openings.push(Opening {
@@ -335,6 +336,7 @@ fn open(
         first_page: next.page,
         rescinded: fate.rescinded,
         vp: vp_at(fate.vp, sub),
+        dialed: None,
     })?;
     next.gpadl += 1;
     next.page += 2 * u64::from(ring_pages) + 2;

@@ -5,13 +5,31 @@ ghost use Rattle.contact.specs.Classes.{offers_from};
 ghost use Rattle.gpadl.specs.Cut.{AreMessagesOf};
 ghost use Rattle.vmbus_msg.specs.Grammar.{type_of};
 ghost use Rattle.control_model.specs.Plan.{IsOpening, subs_behind};
-ghost use Rattle.control_model.specs.Messages.{open_on, teardown, release, delivered, offer_sub, pages_from, modify_one, Sends, Fits};
+ghost use Rattle.control_model.specs.Messages.{connect, offer_service, open_on, teardown, release, delivered, offer_sub, pages_from, modify_one, Sends, Fits};
 
 use crate::{Burst, ControlPlan, Move, Moves, Opening};
-use contact::{Kind, Part, offer, offers};
+use contact::{Kind, Part, offer, offers, service_id};
 use gpadl::to_messages;
 use std::alloc::{AllocError, Global};
 use vmbus_msg::Msg;
+
+/// TL_CONNECT_REQUEST, for the channel of the service at a port.
+pub fn connect(port: u32) -> Msg
+    ensures { result ≡ connect port }
+{
+    Msg::TlConnectRequest {
+        padding: 0,
+        guest_endpoint: service_id(1),
+        host_service: service_id(port),
+    }
+}
+
+/// OFFERCHANNEL, for that channel.
+pub fn offer_service(port: u32, relid: u32) -> Msg
+    ensures { result ≡ offer_service port relid }
+{
+    offer(Kind::Sock { port }, relid, 0)
+}
 
 /// OPENCHANNEL, for a channel whose page list the host knows.
 pub fn open_on(o: &Opening) -> Msg

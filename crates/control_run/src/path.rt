@@ -3,6 +3,7 @@ ghost use Rattle.std.specs.Prelude.{◌≡◌, [], Some, None, IfOk, IfErr};
 ghost use Rattle.contact.specs.declared.part.Part.TheVariants.{Unload};
 ghost use Rattle.control_model.specs.Plan.{part_after};
 ghost use Rattle.control_model.specs.Openings.{plan_of};
+ghost use Rattle.control_model.specs.Sock.{sock_plan};
 ghost use Rattle.control_model.specs.Messages.{farewell, farewell_taken};
 ghost use Rattle.control_model.specs.Said.{said_by_guest, said_by_host};
 ghost use Rattle.control_model.specs.Guest.{new_guest};
@@ -54,6 +55,17 @@ impl ControlPath {
     {
         let guest = GuestControl::make(alloc, script)?;
         let host = HostControl::make(alloc, script)?;
+        join::<Brand, Brand>(alloc, guest, host)
+    }
+
+    /// The path of the guest and the host of a socket of the service at a port, before their first part.
+    pub fn make_sock(alloc: Global, port: u32) -> Result<ControlPath, AllocError>
+        ensures rests { IfOk result (λ p. Rests p) }
+        ensures guest { IfOk result (λ p. p.guest ≡ new_guest (sock_plan port)) }
+        ensures host { IfOk result (λ p. p.host ≡ new_host (sock_plan port)) }
+    {
+        let guest = GuestControl::make_sock(alloc, port)?;
+        let host = HostControl::make_sock(alloc, port)?;
         join::<Brand, Brand>(alloc, guest, host)
     }
 

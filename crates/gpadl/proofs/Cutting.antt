@@ -6,14 +6,16 @@ use Rattle.vmbus_msg.proofs.PartLaws.{same_parts}
 use Rattle.vmbus_msg.proofs.Forms.{body_form}
 use Rattle.gpadl.specs.Cut.{IsHeaderOf, IsBodyOf, AreBodiesOf, bodies, header, CutsSo, CutsWell}
 
-body_is : (handle number frame : ℕ) (frames : List ℕ) (m : Msg) → IsBodyOf handle number (take 28 (frame ∷ frames)) m
+-- a body that says so is the one that the cut has
+pub body_is : (handle number frame : ℕ) (frames : List ℕ) (m : Msg) → IsBodyOf handle number (take 28 (frame ∷ frames)) m
     → m ≡ GpadlBody (record { padding = 0; msgnumber = number; gpadl = handle; frames = take 28 (frame ∷ frames); in_form = body_form frame frames })
 body_is handle number frame frames (GpadlBody b) is =
     let e0 = is.0 in let e1 = is.1 in let e2 = is.2 in
     same_parts (GpadlBody b) (GpadlBody (record { padding = 0; msgnumber = number; gpadl = handle; frames = take 28 (frame ∷ frames); in_form = body_form frame frames })) refl (rw (e0, e1, e2) refl) is.3
 body_is handle number frame frames _ is = absurd is
 
-header_is : (relid handle page : ℕ) (pages : List ℕ) (m : Msg) → IsHeaderOf relid handle (page ∷ pages) m → m ≡ header relid handle page pages
+-- a header likewise
+pub header_is : (relid handle page : ℕ) (pages : List ℕ) (m : Msg) → IsHeaderOf relid handle (page ∷ pages) m → m ≡ header relid handle page pages
 header_is relid handle page pages (GpadlHeader h) is =
     let e0 = is.0 in let e1 = is.1 in let e2 = is.2 in let e3 = is.3 in let e4 = is.4 in let e5 = is.5 in let e6 = is.6 in
     same_parts (GpadlHeader h) (header relid handle page pages) refl (rw (e0, e1, e2, e3, e4, e5, e6) refl) is.7

@@ -35,8 +35,8 @@ pub fn to_messages(
     Ok(messages)
 }
 
-// The header of a list of these pages.
-fn header(relid: u32, handle: u32, pages: &[u64]) -> Msg
+/// The header of a list of 1 to 8,190 pages: it holds the first 26.
+pub fn header(relid: u32, handle: u32, pages: &[u64]) -> Msg
     requires { (1 ≤ length pages.now) × (length pages.now ≤ 8190) }
     ensures { IsHeaderOf relid handle pages.now result }
 {
@@ -52,8 +52,8 @@ fn header(relid: u32, handle: u32, pages: &[u64]) -> Msg
     })
 }
 
-// The body with this number and these frames.
-fn body(handle: u32, number: u32, frames: &[u64]) -> Msg
+/// The body with this number, from 0 on, and these 1 to 28 frames.
+pub fn body(handle: u32, number: u32, frames: &[u64]) -> Msg
     requires { (1 ≤ length frames.now) × (length frames.now ≤ 28) }
     ensures { IsBodyOf handle number frames.now result }
 {

@@ -12,7 +12,8 @@ mod page_list;
 mod progress;
 
 pub use assembler::Assembler;
-pub use cut::to_messages;
+pub use building::pages_of;
+pub use cut::{body, header, to_messages};
 pub use fault::GpadlFault;
 pub use law::{assembled, one_cut};
 pub use page_list::PageList;

@@ -8,6 +8,7 @@ ghost use Rattle.mail_box.specs.Mail.{Mail};
 ghost use Rattle.control_model.specs.declared.guest_wait.GuestWait.TheVariants.{Nothing};
 ghost use Rattle.control_model.specs.Plan.{BusPlan, part_after, IsPlan};
 ghost use Rattle.control_model.specs.Openings.{plan_of};
+ghost use Rattle.control_model.specs.Sock.{sock_plan};
 ghost use Rattle.control_model.specs.Messages.{Sends};
 ghost use Rattle.control_model.specs.Channels.{by_relid, move_at, move_all, changed};
 ghost use Rattle.guest_end.specs.Handles.{AreApart, next_handle};
@@ -65,7 +66,26 @@ impl GuestControl {
         ensures plan { IfOk result (λ control. IsPlan control.plan) }
     {
         let plan = ControlPlan::of(alloc, script)?;
-        Ok(GuestControl {
+        Ok(GuestControl::of_plan(alloc, plan))
+    }
+
+    /// The control of a guest that opens a socket of the service at a port, before its first part: it
+    /// agrees on 5.2 and is offered no device, asks for the service's channel and opens it in one
+    /// phase, and gives it back at the end of that.
+    pub fn make_sock(alloc: Global, port: u32) -> Result<GuestControl, AllocError>
+        ensures made { IfOk result (λ control. control ≡ new_guest (sock_plan port)) }
+        ensures plan { IfOk result (λ control. IsPlan control.plan) }
+    {
+        let plan = ControlPlan::of_sock(alloc, port)?;
+        Ok(GuestControl::of_plan(alloc, plan))
+    }
+
+    // The control of a plan, before its first part.
+    fn of_plan(alloc: Global, plan: ControlPlan) -> GuestControl
+        ensures made { result ≡ new_guest plan }
+        ensures plan { IsPlan result.plan }
+    {
+        GuestControl {
             alloc,
             plan,
             part: None,
@@ -75,7 +95,7 @@ impl GuestControl {
             rising: Some(0),
             posted: Vec::new(alloc),
             fed: Vec::new(alloc),
-        })
+        }
     }
 
     /// Begins a part: it sends what the guest sends unasked at the start of that part. `post` is

@@ -2,29 +2,58 @@
 ghost use Rattle.std.specs.Prelude.{◌≡◌, Some, IfOk};
 ghost use Rattle.control_model.specs.Plan.{opening_in, IsOpening};
 ghost use Rattle.control_model.specs.Channels.{by_relid, lived};
-ghost use Rattle.control_model.specs.Guest.{IsFit, lists_next, opens, created_for, created_while, on_created};
+ghost use Rattle.control_model.specs.Guest.{IsFit, lists, dials_one, lists_next, opens, created_for, created_while, on_created};
 
 use crate::GuestControl;
 use crate::turns::lived;
 use chan_state::Event;
 use contact::Part;
-use control_model::{Burst, Change, Channel, ControlFault, GuestTurn, GuestWait, Opening, open_on};
+use control_model::{
+    Burst, Change, Channel, ControlFault, GuestTurn, GuestWait, Opening, connect, open_on,
+};
 
 impl GuestControl {
-    // Goes on with the opening at a place, if there is one: its page list is sent. Behind the last one
-    // channels are moved.
+    // Goes on with the opening at a place, if there is one. Behind the last one channels are moved.
     pub(crate) fn list_next(&self, turn: GuestTurn, part: Option<Part>, place: usize) -> GuestTurn
         requires { IsFit self.now turn }
         ensures turn { result ≡ lists_next self.now part turn place (opening_in self.now.plan part place) }
         ensures fits { IsFit self.now result }
     {
         match self.plan.opening(part, place) {
-            Some(o) => GuestTurn {
-                awaits: GuestWait::Created(place),
-                burst: Burst::PageList(o),
+            Some(o) => self.dial_or_list(turn, place, o),
+            None => self.move_all(turn, part),
+        }
+    }
+
+    // The page list of an opening is sent; but where its channel is that of a service, the guest asks for
+    // it first.
+    fn dial_or_list(&self, turn: GuestTurn, place: usize, o: Opening) -> GuestTurn
+        requires turn { IsFit self.now turn }
+        requires opening { IsOpening o }
+        ensures turn { result ≡ dials_one turn place o o.dialed }
+        ensures fits { IsFit self.now result }
+    {
+        match o.dialed {
+            None => self.list(turn, place, o),
+            Some(port) => GuestTurn {
+                awaits: GuestWait::ServiceOffer(place),
+                burst: Burst::One(connect(port)),
                 ..turn
             },
-            None => self.move_all(turn, part),
+        }
+    }
+
+    // The page list of an opening is sent.
+    pub(crate) fn list(&self, turn: GuestTurn, place: usize, o: Opening) -> GuestTurn
+        requires turn { IsFit self.now turn }
+        requires opening { IsOpening o }
+        ensures turn { result ≡ lists turn place o }
+        ensures fits { IsFit self.now result }
+    {
+        GuestTurn {
+            awaits: GuestWait::Created(place),
+            burst: Burst::PageList(o),
+            ..turn
         }
     }
 

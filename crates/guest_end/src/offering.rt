@@ -2,9 +2,9 @@
 ghost use Rattle.std.specs.Prelude.{◌≡◌, ◌+◌, ◌^◌, ◌<◌, length, IfOk, IsTrue};
 ghost use Rattle.contact.specs.Classes.{IsOffer};
 ghost use Rattle.control_model.specs.declared.change.Change.{Change};
-ghost use Rattle.control_model.specs.Plan.{opening_in, is_of_sub, most_channels, IsOpening};
+ghost use Rattle.control_model.specs.Plan.{opening_in, is_of_sub, most_channels, IsOpening, HasPort};
 ghost use Rattle.control_model.specs.Channels.{same_kind, is_kind};
-ghost use Rattle.control_model.specs.Guest.{IsFit, idle, offered_channel, is_next_offer, is_sub_offer, device_offered, goes_behind, sub_offered, takes_offer, guest_hears, on_delivered, awaits_offers};
+ghost use Rattle.control_model.specs.Guest.{IsFit, idle, offered_channel, is_next_offer, is_sub_offer, device_offered, goes_behind, sub_offered, is_service, is_service_offer, service_offered, takes_offer, guest_hears, on_delivered, awaits_offers};
 
 use crate::GuestControl;
 use chan_state::ChanState;
@@ -26,13 +26,16 @@ impl GuestControl {
         }
     }
 
-    // The next offer, of a device or of a sub-channel, adds a channel; nothing comes of another one.
+    // The next offer, of a device, of a sub-channel or of a service, adds a channel; nothing comes of
+    // another one.
     fn offered(&self, offer: Offered) -> GuestTurn
         ensures turn { result ≡ takes_offer self.now self.now.awaits offer.kind offer.sub offer.relid }
+        ensures port { HasPort offer.kind }
         ensures fits { IsFit self.now result }
     {
         match self.awaits {
             GuestWait::SubOffer(place) => self.sub_offered(offer, place),
+            GuestWait::ServiceOffer(place) => self.service_offered(offer, place),
             _ => self.device_offered(offer),
         }
     }
@@ -57,6 +60,19 @@ impl GuestControl {
         match self.plan.opening(self.part, place) {
             Some(o) if self.is_sub_offer(&o, offer) => {
                 self.go_behind(self.adds_channel(), place, &o)
+            }
+            _ => self.idle(),
+        }
+    }
+
+    // The offer of the service that was asked for: its page list is sent.
+    fn service_offered(&self, offer: Offered, place: usize) -> GuestTurn
+        ensures turn { result ≡ service_offered self.now place offer.kind offer.sub offer.relid (opening_in self.now.plan self.now.part place) }
+        ensures fits { IsFit self.now result }
+    {
+        match self.plan.opening(self.part, place) {
+            Some(o) if self.is_service_offer(&o, offer) => {
+                self.list(self.adds_channel(), place, o)
             }
             _ => self.idle(),
         }
@@ -116,6 +132,18 @@ impl GuestControl {
             && same_kind(Kind::Disk, offer.kind)
     }
 
+    // The offer is of the service whose channel is that of an opening, with the next relid.
+    fn is_service_offer(&self, o: &Opening, offer: Offered) -> bool
+        requires { IsOpening o.now }
+        ensures next { result ≡ is_service_offer self.now o.now offer.kind offer.sub offer.relid }
+        ensures room { IsTrue result → length self.now.channels < most_channels }
+    {
+        offer.relid as usize == self.channels.len() + 1
+            && offer.relid == o.relid
+            && offer.sub == 0
+            && is_service(offer.kind, o.dialed)
+    }
+
     // The next offer is of the next device's primary channel, with the next relid.
     fn is_next_offer(&self, offer: Offered) -> bool
         ensures next { result ≡ is_next_offer self.now offer.kind offer.sub offer.relid }
@@ -152,15 +180,19 @@ impl GuestControl {
     }
 }
 
-// Whether two kinds are the same.
+// Whether a kind is that of the service that was asked for.
+fn is_service(kind: Kind, dialed: Option<u32>) -> bool
+    ensures { result ≡ is_service kind dialed }
+{
+    match dialed {
+        Some(port) => same_kind(Kind::Sock { port }, kind),
+        None => false,
+    }
+}
+
+// Whether two kinds are the same: they have one class id.
 fn same_kind(a: Kind, b: Kind) -> bool
     ensures { result ≡ same_kind a b }
 {
-    match (a, b) {
-        (Kind::Beat, Kind::Beat) => true,
-        (Kind::Down, Kind::Down) => true,
-        (Kind::Disk, Kind::Disk) => true,
-        (Kind::Net, Kind::Net) => true,
-        _ => false,
-    }
+    a == b
 }

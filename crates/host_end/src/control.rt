@@ -1,6 +1,7 @@
 //! A host's control.
 ghost use Rattle.std.specs.Prelude.{◌≡◌, ◌+◌, ◌≤◌, [], length, IfOk, OnOk, OnErr, IsTrue, Some};
 ghost use Rattle.control_model.specs.Openings.{plan_of};
+ghost use Rattle.control_model.specs.Sock.{sock_plan};
 ghost use Rattle.control_model.specs.Host.{new_host, host_hears, host_done, host_state_of, host_can_begin, HostBegins};
 ghost use Rattle.host_end.specs.Feeding.{Comes};
 ghost use Rattle.control_model.specs.Channels.{by_relid};
@@ -51,7 +52,24 @@ impl HostControl {
         ensures { IfOk result (λ control. control ≡ new_host (plan_of script.now)) }
     {
         let plan = ControlPlan::of(alloc, script)?;
-        Ok(HostControl {
+        Ok(HostControl::of_plan(alloc, plan))
+    }
+
+    /// The control of the host of a socket of the service at a port, before its first part: it has 5.2
+    /// and offers no device, offers the service's channel once the guest asks for it, and takes it
+    /// back at the end of the one phase.
+    pub fn make_sock(alloc: Global, port: u32) -> Result<HostControl, AllocError>
+        ensures { IfOk result (λ control. control ≡ new_host (sock_plan port)) }
+    {
+        let plan = ControlPlan::of_sock(alloc, port)?;
+        Ok(HostControl::of_plan(alloc, plan))
+    }
+
+    // The control of a plan, before its first part.
+    fn of_plan(alloc: Global, plan: ControlPlan) -> HostControl
+        ensures { result ≡ new_host plan }
+    {
+        HostControl {
             alloc,
             plan,
             part: None,
@@ -61,7 +79,7 @@ impl HostControl {
             lists: Assembler::make(alloc),
             posted: Vec::new(alloc),
             fed: Vec::new(alloc),
-        })
+        }
     }
 
     /// Whether a part has begun and this side has sent and taken all its messages of that part, of
@@ -148,6 +166,9 @@ impl HostControl {
 
     /// Takes a message of the guest, and puts what comes of it into `post`.
     ///
+    /// A TL_CONNECT_REQUEST of the service that the plan's next channel is of is answered by the offer of
+    /// that channel; nothing comes of one of another service, or at another time.
+    ///
     /// A MODIFYCHANNEL of an open channel is answered by MODIFYCHANNEL_RESPONSE with status 0 from 5.3 on,
     /// and not answered below.
     ///
@@ -164,6 +185,7 @@ impl HostControl {
         match m {
             Msg::InitiateContact { version, .. } => self.hear_contact(m, Version(*version), post),
             Msg::RequestOffers { .. } => self.hear_request(m, post),
+            Msg::TlConnectRequest { host_service, .. } => self.hear_connect(m, host_service, post),
             Msg::GpadlHeader(h) => self.hear_header(m, h.relid, post),
             Msg::GpadlBody(_) => self.hear_piece(m, post),
             Msg::OpenChannel { relid, openid, .. } => self.hear_open(m, *relid, *openid, post),

@@ -20,12 +20,14 @@ use std::alloc::{AllocError, Global};
 use vmbus_msg::Msg;
 
 impl HostControl {
-    // It waits for the page list of the opening at a place, if there is one; behind the last one for the
-    // first channel that is moved.
+    // It waits for the page list of the opening at a place, if there is one, or, where its channel is
+    // that of a service, for the guest to ask for it; behind the last one for the first channel that is
+    // moved.
     pub(crate) fn waits_list(&self, part: Option<Part>, place: usize) -> HostWait
         ensures { result ≡ waits_list self.now part place (opening_in self.now.plan part place) }
     {
         match self.plan.opening(part, place) {
+            Some(o) if o.dialed.is_some() => HostWait::Connect(place),
             Some(_) => HostWait::List(place),
             None => self.wait_move(part, 0),
         }

@@ -5,6 +5,7 @@
 #![tactic(auto)]
 
 mod answers;
+mod connecting;
 mod control;
 mod ending;
 mod hearing;

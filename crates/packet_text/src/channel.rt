@@ -1,5 +1,5 @@
 //! The packets of the channels of a run.
-ghost use Rattle.std.specs.Prelude.{◌≡◌, ◌++◌, OnOk};
+ghost use Rattle.std.specs.Prelude.{◌≡◌, ◌++◌, IfOk, OnOk};
 ghost use Rattle.packet_text.specs.Lines.{channel_text, line_of, lines_of, packets_text};
 
 use crate::Form;
@@ -7,7 +7,7 @@ use crate::packet::{Origin, push_dump, push_in_words};
 use bus_model::ChannelRun;
 use io_edge::Side;
 use ring_core::Packets;
-use std::alloc::AllocError;
+use std::alloc::{AllocError, Global};
 
 fn push_packet(
     text: &mut Vec<u8>,
@@ -57,16 +57,17 @@ fn push_channel(text: &mut Vec<u8>, form: Form, channel: &ChannelRun) -> Result<
     Ok(())
 }
 
-/// Writes the packets of channels behind a text: channel by channel, those that the guest sent and then those that the host sent, each in order, a line for each. The refusal is want of memory.
-pub fn write_packets(
-    text: &mut Vec<u8>,
+/// The packets of channels as text: channel by channel, those that the guest sent and then those that the host sent, each in order, a line for each. The refusal is want of memory.
+pub fn packets_text(
+    alloc: Global,
     form: Form,
     channels: &[ChannelRun],
-) -> Result<(), AllocError>
-    ensures { OnOk result (text.new.items ≡ text.old.items ++ packets_text form channels.now) }
+) -> Result<Vec<u8>, AllocError>
+    ensures { IfOk result (λ text. text.items ≡ packets_text form channels.now) }
 {
+    let mut text = Vec::new(alloc);
     for channel in channels {
-        push_channel(text, form, channel)?;
+        push_channel(&mut text, form, channel)?;
     }
-    Ok(())
+    Ok(text)
 }

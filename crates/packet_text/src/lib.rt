@@ -5,5 +5,5 @@ mod channel;
 mod form;
 mod packet;
 
-pub use channel::write_packets;
+pub use channel::packets_text;
 pub use form::Form;

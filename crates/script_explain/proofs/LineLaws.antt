@@ -7,6 +7,9 @@ use Rattle.script_text.specs.declared.fault.ScriptFault.{ScriptFault}
 use Rattle.script_lines.specs.Grammar.{script_of}
 use Rattle.script_lines.proofs.Firsts.{finds_lem}
 use Rattle.script_explain.specs.Explained.{Tells, head_text, mark_text}
+use Rattle.script_explain.specs.declared.mark.Mark.{Mark}
+use Rattle.script_explain.specs.Help.{help_text}
+use Rattle.script_explain.specs.Marks.{mark_at}
 
 -- none is left behind the last
 pub past : {X : Type 0} (ls rest : List X) (i : ℕ) → rest ≡ drop i ls → rest ≡ [] → length ls ≤ i
@@ -32,16 +35,12 @@ is_line bytes fault is =
     (omega (arith, w.line), omega (arith, w.line, ap length w.split, length-append w.good (w.bad ∷ w.rest)))
 
 -- what is told of a fault in three parts
-pub tells_lem : {fault : ScriptFault} {bytes line head marked text : List ℕ} (at len : ℕ) (help : List ℕ) → slice_get (lines bytes) (fault.line - 1) ≡ Some line → at + len ≤ length line
-    → head ≡ head_text fault line → marked ≡ head ++ mark_text at len → text ≡ marked ++ help → Tells fault bytes text
-tells_lem {fault} {bytes} {line} {head} {marked} {text} at len help found within first second third = record {
+pub tells_lem : {fault : ScriptFault} {bytes line head marked text : List ℕ} {mark : Mark} → slice_get (lines bytes) (fault.line - 1) ≡ Some line
+    → head ≡ head_text fault line → mark ≡ mark_at line fault.why → marked ≡ head ++ mark_text mark → text ≡ marked ++ help_text bytes fault.line line fault.why → Tells fault bytes text
+tells_lem {fault} {bytes} {line} {head} {marked} {text} {mark} found first there second third = record {
   line = line;
   line_is = found;
-  at = at;
-  len = len;
-  within = within;
-  help = help;
-  is = third ∙ ap (λ t. t ++ help) (second ∙ ap (λ t. t ++ mark_text at len) first) ∙ append_assoc (head_text fault line) (mark_text at len) help;
+  is = third ∙ ap (λ t. t ++ help_text bytes fault.line line fault.why) (second ∙ ap (λ m. head ++ mark_text m) there ∙ ap (λ t. t ++ mark_text (mark_at line fault.why)) first) ∙ append_assoc (head_text fault line) (mark_text (mark_at line fault.why)) (help_text bytes fault.line line fault.why);
 }
 
 -- four parts behind a text, one by one
@@ -49,3 +48,8 @@ pub four_parts : {X : Type 0} {t u v w : List X} (s a b c d : List X) → t ≡ 
 four_parts {X} {t} {u} {v} {w} s a b c d first second third fourth =
     fourth ∙ ap (λ l. l ++ d) (third ∙ ap (λ l. l ++ c) (second ∙ ap (λ l. l ++ b) first))
     ∙ append_assoc ((s ++ a) ++ b) c d ∙ append_assoc (s ++ a) b (c ++ d) ∙ append_assoc s a (b ++ (c ++ d))
+
+-- three
+pub three_parts : {X : Type 0} {t u v : List X} (s a b c : List X) → t ≡ s ++ a → u ≡ t ++ b → v ≡ u ++ c → v ≡ s ++ (a ++ (b ++ c))
+three_parts {X} {t} {u} {v} s a b c first second third =
+    third ∙ ap (λ l. l ++ c) (second ∙ ap (λ l. l ++ b) first) ∙ append_assoc (s ++ a) b c ∙ append_assoc s a (b ++ c)

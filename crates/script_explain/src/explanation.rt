@@ -3,9 +3,11 @@ ghost use Rattle.std.specs.Prelude.{◌≡◌, ◌<◌, ◌≤◌, ◌-◌, ◌+
 ghost use Rattle.std.specs.Str.Lines.{lines};
 ghost use Rattle.script_lines.specs.Grammar.{script_of};
 ghost use Rattle.script_explain.specs.Explained.{Explains, Tells, head_text, mark_text, reason_text, shown_text, why_text};
+ghost use Rattle.script_explain.specs.Help.{help_text, row_text, said_text};
 
 use crate::mark::Mark;
 use crate::place::{earlier, mark_at, row_at};
+use crate::row::Row;
 use script_lines::parse;
 use script_text::{ParseFault, ScriptFault, Why6, first_line, push_decimal};
 use std::alloc::{AllocError, Global};
@@ -128,12 +130,36 @@ fn push_times(text: &mut Vec<u8>, byte: u8, times: usize) -> Result<(), AllocErr
 
 // A mark under a part of the line above; where that is empty, under the byte behind it.
 fn push_mark(text: &mut Vec<u8>, mark: Mark) -> Result<(), AllocError>
-    ensures { OnOk result (text.new.items ≡ text.old.items ++ mark_text mark.at mark.len) }
+    ensures { OnOk result (text.new.items ≡ text.old.items ++ mark_text mark) }
 {
     text.extend_from_slice(b"    ")?;
     push_times(text, b' ', mark.at)?;
     push_times(text, b'^', mark.len.max(1))?;
     text.extend_from_slice(b"\n")?;
+    Ok(())
+}
+
+// Which earlier line is said again.
+fn push_said(text: &mut Vec<u8>, found: Option<u32>) -> Result<(), AllocError>
+    ensures { OnOk result (text.new.items ≡ text.old.items ++ said_text found) }
+{
+    if let Some(number) = found {
+        text.extend_from_slice(b"    said in line ")?;
+        push_decimal(text, u64::from(number))?;
+        text.extend_from_slice(b" already\n")?;
+    }
+    Ok(())
+}
+
+// How a row is written.
+fn push_row(text: &mut Vec<u8>, found: Option<Row>) -> Result<(), AllocError>
+    ensures { OnOk result (text.new.items ≡ text.old.items ++ row_text found) }
+{
+    if let Some(row) = found {
+        text.extend_from_slice(b"    ")?;
+        text.extend_from_slice(row.told())?;
+        text.extend_from_slice(b"\n")?;
+    }
     Ok(())
 }
 
@@ -144,20 +170,11 @@ fn push_help(
     fault: ScriptFault,
     line: &[u8],
 ) -> Result<(), AllocError>
-    ensures { OnOk result ((more : List ℕ) × (text.new.items ≡ text.old.items ++ more)) }
+    requires { 1 ≤ fault.line }
+    ensures { OnOk result (text.new.items ≡ text.old.items ++ help_text bytes.now fault.line line.now fault.why) }
 {
-    if let Why6::Repeat = fault.why {
-        if let Some(number) = earlier(bytes, fault.line, line) {
-            text.extend_from_slice(b"    said in line ")?;
-            push_decimal(text, u64::from(number))?;
-            text.extend_from_slice(b" already\n")?;
-        }
-        return Ok(());
+    match fault.why {
+        Why6::Repeat => push_said(text, earlier(bytes, fault.line, line)),
+        _ => push_row(text, row_at(line)),
     }
-    if let Some(row) = row_at(line) {
-        text.extend_from_slice(b"    ")?;
-        text.extend_from_slice(row.told.as_bytes())?;
-        text.extend_from_slice(b"\n")?;
-    }
-    Ok(())
 }

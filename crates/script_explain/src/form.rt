@@ -1,4 +1,9 @@
 //! What the words of a row may be.
+ghost use Rattle.std.specs.Prelude.{◌≡◌, ◌&&◌, false, nat_le, length};
+ghost use Rattle.std.specs.Option.{option_map_or};
+ghost use Rattle.script_text.specs.Forms.{is_decimal, number_of, in_u64, are_bytes, bytes_of};
+ghost use Rattle.script_explain.specs.Forms.{admits, fits, is_far, may_lack, takes};
+
 use script_text::{
     are_bytes, count_bytes, is_address, is_byte, is_decimal, is_name, is_oid, is_version,
     number_of, version_of,
@@ -33,7 +38,9 @@ pub(crate) enum Form {
 
 impl Form {
     /// Whether a word has the form.
-    pub(crate) fn takes(self, word: &[u8]) -> bool {
+    fn takes(self, word: &[u8]) -> bool
+        ensures { result ≡ takes self word.now }
+    {
         match self {
             Form::End => false,
             Form::Name => is_name(word),
@@ -55,12 +62,34 @@ impl Form {
     }
 
     /// Whether nothing may stand there.
-    pub(crate) fn may_lack(self) -> bool {
+    fn may_lack(self) -> bool
+        ensures { result ≡ may_lack self }
+    {
         matches!(self, Form::End | Form::Held)
     }
 
+    /// Whether what stands there, a word or nothing, has the form.
+    pub(crate) fn fits(self, word: &[u8]) -> bool
+        ensures { result ≡ fits self word.now }
+    {
+        if word.is_empty() {
+            self.may_lack()
+        } else {
+            self.takes(word)
+        }
+    }
+
+    /// Whether a word stands there that is out of its range.
+    pub(crate) fn is_far(self, word: &[u8]) -> bool
+        ensures { result ≡ is_far self word.now }
+    {
+        !word.is_empty() && !self.admits(word)
+    }
+
     /// Whether a word of the form is in its range.
-    pub(crate) fn admits(self, word: &[u8]) -> bool {
+    fn admits(self, word: &[u8]) -> bool
+        ensures { result ≡ admits self word.now }
+    {
         match self {
             Form::Number { low, high } => admits_number(word, low, high),
             Form::Version => is_version(word) && version_of(word).is_some(),
@@ -70,7 +99,9 @@ impl Form {
     }
 }
 
-fn admits_number(word: &[u8], low: u64, high: u64) -> bool {
+fn admits_number(word: &[u8], low: u64, high: u64) -> bool
+    ensures { result ≡ (is_decimal word.now && option_map_or (λ n. nat_le low n && nat_le n high) (in_u64 (number_of word.now)) false) }
+{
     if !is_decimal(word) {
         return false;
     }
@@ -80,7 +111,9 @@ fn admits_number(word: &[u8], low: u64, high: u64) -> bool {
     }
 }
 
-fn admits_bytes(word: &[u8], least: usize, most: usize) -> bool {
+fn admits_bytes(word: &[u8], least: usize, most: usize) -> bool
+    ensures { result ≡ (are_bytes word.now && (nat_le least (length (bytes_of word.now)) && nat_le (length (bytes_of word.now)) most)) }
+{
     if !are_bytes(word) {
         return false;
     }

@@ -1,36 +1,42 @@
-//! Which word of a wrong line is at fault, and which earlier line it repeats.
-ghost use Rattle.std.specs.Prelude.{◌≡◌, ◌≤◌, ◌+◌, length};
+//! Which word of a wrong line is at fault, and which earlier line it says again.
+ghost use Rattle.std.specs.Prelude.{◌≡◌, ◌≤◌, length};
+ghost use Rattle.script_explain.specs.Help.{earlier, says_again};
+ghost use Rattle.script_explain.specs.Marks.{begins_with, far_word, fault_word, last_number, mark_at, mark_of, repeated_word, row_at, wrong_word};
 
 use crate::form::Form;
-use crate::mark::{Mark, nth_word, same_word, text_of};
+use crate::mark::{Mark, same_word, text_at, word_at};
 use crate::row::{Row, row_of};
 use script_text::{Why6, first_line};
 
 /// The row of the table of lines that a line nearly is: the one that begins with its first word.
-pub(crate) fn row_at(line: &[u8]) -> Option<Row> {
-    let key = text_of(line, nth_word(line, 0)?);
-    match nth_word(line, 1) {
-        Some(second) => row_of(key, text_of(line, second)),
-        None => row_of(key, &[]),
-    }
+pub(crate) fn row_at(line: &[u8]) -> Option<Row>
+    ensures { result ≡ row_at line.now }
+{
+    row_of(text_at(line, 0), text_at(line, 1))
 }
 
-/// The word that is at fault, or the end of the line where one is missing.
+/// Where the word at fault stands.
 pub(crate) fn mark_at(line: &[u8], why: Why6) -> Mark
-    ensures { result.at + result.len ≤ length line.now }
+    ensures { result ≡ mark_at line.now why }
 {
-    match word_at_fault(line, why) {
-        Some(n) => nth_or_end(line, n),
-        None => whole(line),
+    match fault_word(line, why) {
+        Some(n) => mark_of(line, n),
+        None => Mark {
+            at: 0,
+            len: line.len(),
+        },
     }
 }
 
-// The n-th word, or the end of the line.
-fn nth_or_end(line: &[u8], n: u32) -> Mark
-    ensures { result.at + result.len ≤ length line.now }
+// Where the n-th word stands, or the end of the line.
+fn mark_of(line: &[u8], n: usize) -> Mark
+    ensures { result ≡ mark_of line.now n }
 {
-    match nth_word(line, n) {
-        Some(mark) => mark,
+    match word_at(line, n) {
+        Some((at, word)) => Mark {
+            at,
+            len: word.len(),
+        },
         None => Mark {
             at: line.len(),
             len: 0,
@@ -38,42 +44,36 @@ fn nth_or_end(line: &[u8], n: u32) -> Mark
     }
 }
 
-fn whole(line: &[u8]) -> Mark
-    ensures { result.at + result.len ≤ length line.now }
-{
-    Mark {
-        at: 0,
-        len: line.len(),
-    }
-}
-
 // The number of the word that is at fault; none where the line as a whole is.
-fn word_at_fault(line: &[u8], why: Why6) -> Option<u32> {
+fn fault_word(line: &[u8], why: Why6) -> Option<usize>
+    ensures { result ≡ fault_word line.now why }
+{
     match why {
         Why6::Limit => None,
         Why6::Order => Some(0),
         Why6::UnknownName => Some(1),
         Why6::Repeat => Some(repeated_word(line)),
         Why6::Form => match row_at(line) {
-            Some(row) => wrong_word(line, row.forms),
+            Some(row) => wrong_word(line, &row.forms()),
             None => Some(0),
         },
         Why6::Range => match row_at(line) {
-            Some(row) => Some(far_word(line, row.forms)),
+            Some(row) => Some(far_word(line, &row.forms())),
             None => None,
         },
     }
 }
 
-fn begins_with(line: &[u8], key: &[u8]) -> bool {
-    match nth_word(line, 0) {
-        Some(mark) => text_of(line, mark) == key,
-        None => false,
-    }
+fn begins_with(line: &[u8], key: &[u8]) -> bool
+    ensures { result ≡ begins_with line.now key.now }
+{
+    text_at(line, 0) == key
 }
 
 // Of an offer the name stands behind the kind, and of a bad block its place is what is said again.
-fn repeated_word(line: &[u8]) -> u32 {
+fn repeated_word(line: &[u8]) -> usize
+    ensures { result ≡ repeated_word line.now }
+{
     if begins_with(line, b"offer") || begins_with(line, b"bad") {
         2
     } else {
@@ -82,52 +82,60 @@ fn repeated_word(line: &[u8]) -> u32 {
 }
 
 // The first word that hasn't its form, is missing, or is too many.
-fn wrong_word(line: &[u8], forms: [Form; 5]) -> Option<u32> {
-    for n in 0..5u32 {
-        if !has_form(line, n + 1, forms[n as usize]) {
-            return Some(n + 1);
+fn wrong_word(line: &[u8], forms: &[Form; 5]) -> Option<usize>
+    ensures { result ≡ wrong_word line.now 1 forms.now }
+{
+    let mut n = 1;
+    let mut rest = forms.as_slice();
+    while let [form, others @ ..] = rest {
+        if !form.fits(text_at(line, n)) {
+            return Some(n);
         }
+        n += 1;
+        rest = others;
     }
-    if nth_word(line, 6).is_some() {
-        Some(6)
-    } else {
+    if text_at(line, n).is_empty() {
         None
+    } else {
+        Some(n)
     }
 }
 
-fn has_form(line: &[u8], n: u32, form: Form) -> bool {
-    match nth_word(line, n) {
-        Some(mark) => form.takes(text_of(line, mark)),
-        None => form.may_lack(),
-    }
-}
-
-// The first word that is out of its range, or the last number.
-fn far_word(line: &[u8], forms: [Form; 5]) -> u32 {
-    for n in 0..5u32 {
-        if is_far(line, n + 1, forms[n as usize]) {
-            return n + 1;
-        }
-    }
+// The number that only the lines before tell out of range.
+fn last_number(line: &[u8]) -> usize
+    ensures { result ≡ last_number line.now }
+{
     if begins_with(line, b"rescind") { 3 } else { 2 }
 }
 
-fn is_far(line: &[u8], n: u32, form: Form) -> bool {
-    match nth_word(line, n) {
-        Some(mark) => !form.admits(text_of(line, mark)),
-        None => false,
+// The first word that is out of its range, or that number.
+fn far_word(line: &[u8], forms: &[Form; 5]) -> usize
+    ensures { result ≡ far_word line.now (last_number line.now) 1 forms.now }
+{
+    let mut n = 1;
+    let mut rest = forms.as_slice();
+    while let [form, others @ ..] = rest {
+        if form.is_far(text_at(line, n)) {
+            return n;
+        }
+        n += 1;
+        rest = others;
     }
+    last_number(line)
 }
 
-/// The last of the lines before this one that it says again: an offer of the same name, the same bad block, or a line that begins with the same two words.
-pub(crate) fn earlier(bytes: &[u8], number: u32, line: &[u8]) -> Option<u32> {
+/// The last of the lines before this one that it says again.
+pub(crate) fn earlier(bytes: &[u8], number: u32, line: &[u8]) -> Option<u32>
+    requires { 1 ≤ number }
+    ensures { result ≡ earlier bytes.now number line.now }
+{
     let mut rest = bytes;
     let mut found = None;
     for n in 1..number {
         let Some((text, after)) = first_line(rest) else {
             return found;
         };
-        if says_again(text, line) {
+        if says_again(line, text) {
             found = Some(n);
         }
         rest = after;
@@ -135,7 +143,10 @@ pub(crate) fn earlier(bytes: &[u8], number: u32, line: &[u8]) -> Option<u32> {
     found
 }
 
-fn says_again(text: &[u8], line: &[u8]) -> bool {
+// Whether a line says the same as an earlier text: an offer of the same name, the same bad block, or a line that begins with the same two words.
+fn says_again(line: &[u8], text: &[u8]) -> bool
+    ensures { result ≡ says_again line.now text.now }
+{
     if !same_word(text, line, 0) {
         return false;
     }

@@ -1,22 +1,38 @@
 //! The rows of the table of lines, as they are told.
+ghost use Rattle.std.specs.Prelude.{◌≡◌};
+ghost use Rattle.script_explain.specs.Rows.{device_row, disk_row, ending_row, forms, offer_row, row_of, settings_row, told};
+
 use crate::form::Form;
 
-/// A row: how it is written, with its ranges, and what its words behind the first may be.
-#[derive(Clone, Copy)]
-pub(crate) struct Row {
-    pub told: &'static str,
-    pub forms: [Form; 5],
+/// A row.
+#[derive(Clone, Copy, Debug, PartialEq, Eq)]
+pub(crate) enum Row {
+    Contact,
+    Offer,
+    OfferDisk,
+    OfferNet,
+    Bad,
+    Ring,
+    Window,
+    Ready,
+    Inquiry,
+    Capacity,
+    LongCapacity,
+    Flush,
+    Read,
+    Write,
+    Beat,
+    Down,
+    Query,
+    Set,
+    Keep,
+    Reset,
+    Frame,
+    Rescind,
+    Close,
+    Modify,
+    Phase,
 }
-
-fn make_row(told: &'static str, forms: [Form; 5]) -> Row {
-    Row { told, forms }
-}
-
-// Nothing behind the first word.
-const NONE: [Form; 5] = [Form::End, Form::End, Form::End, Form::End, Form::End];
-
-// A name alone.
-const NAME: [Form; 5] = [Form::Name, Form::End, Form::End, Form::End, Form::End];
 
 // A number of 64 bits.
 const WIDE: Form = Form::Number {
@@ -27,61 +43,59 @@ const WIDE: Form = Form::Number {
 // So many blocks.
 const COUNT: Form = Form::Number { low: 0, high: 4 };
 
-// A name, and one more word.
-fn with(second: Form) -> [Form; 5] {
-    [Form::Name, second, Form::End, Form::End, Form::End]
-}
-
-/// The row that begins with a word; of an offer the second word tells which.
-pub(crate) fn row_of(key: &[u8], second: &[u8]) -> Option<Row> {
-    match settings_row(key, second) {
-        Some(row) => Some(row),
-        None => match disk_row(key) {
-            Some(row) => Some(row),
-            None => other_row(key),
-        },
+impl Row {
+    /// How it is written, with its ranges.
+    pub(crate) fn told(self) -> &'static [u8]
+        ensures { result.now ≡ told self }
+    {
+        match self {
+            Row::Contact => b"contact GUEST HOST: each is 2.4, 3.0, 4.0, 4.1, 5.0, 5.1, 5.2 or 5.3",
+            Row::Offer =>
+                b"offer hb NAME, offer shutdown NAME, offer disk NAME BLOCKS SUBS or offer net NAME MAC STATION",
+            Row::OfferDisk =>
+                b"offer disk NAME BLOCKS SUBS: BLOCKS is 1 to 1099511627776, SUBS 0 to 3",
+            Row::OfferNet =>
+                b"offer net NAME MAC STATION: both addresses have 12 hexadecimal digits",
+            Row::Bad => b"bad NAME LBA: LBA is below the disk's number of blocks",
+            Row::Ring => b"ring NAME PAGES: PAGES is 1 to 16",
+            Row::Window => b"window NAME N: N is 1 to 64",
+            Row::Ready => b"ready NAME",
+            Row::Inquiry => b"inquiry NAME",
+            Row::Capacity => b"capacity NAME",
+            Row::LongCapacity => b"capacity16 NAME",
+            Row::Flush => b"flush NAME",
+            Row::Read => b"read NAME LBA COUNT: LBA is 0 to 18446744073709551615, COUNT 0 to 4",
+            Row::Write =>
+                b"write NAME LBA COUNT HH: LBA is 0 to 18446744073709551615, COUNT 0 to 4, HH two hexadecimal digits",
+            Row::Beat => b"beat NAME SEQ: SEQ is 0 to 18446744073709551615",
+            Row::Down => b"down NAME FLAGS: FLAGS is 0 to 4294967295",
+            Row::Query => b"query NAME OID: OID is 0x and 8 hexadecimal digits",
+            Row::Set => b"set NAME OID HEX: OID is 0x and 8 hexadecimal digits, HEX 1 to 64 bytes",
+            Row::Keep => b"keep NAME",
+            Row::Reset => b"reset NAME",
+            Row::Frame => b"frame NAME HEX: HEX is 14 to 1514 bytes",
+            Row::Rescind =>
+                b"rescind NAME after K, or rescind NAME after K held: K is 0 to 4096, and at least 1 before held",
+            Row::Close => b"close NAME",
+            Row::Modify => b"modify NAME VP: VP is 0 to 63",
+            Row::Phase => b"phase",
+        }
     }
-}
 
-fn settings_row(key: &[u8], second: &[u8]) -> Option<Row> {
-    if key == b"contact".as_slice() {
-        Some(make_row(
-            "contact GUEST HOST: each is 2.4, 3.0, 4.0, 4.1, 5.0, 5.1, 5.2 or 5.3",
-            [
+    /// What its words behind the first may be.
+    pub(crate) fn forms(self) -> [Form; 5]
+        ensures { result ≡ forms self }
+    {
+        match self {
+            Row::Contact => [
                 Form::Version,
                 Form::Version,
                 Form::End,
                 Form::End,
                 Form::End,
             ],
-        ))
-    } else if key == b"offer".as_slice() {
-        Some(offer_row(second))
-    } else if key == b"bad".as_slice() {
-        Some(make_row(
-            "bad NAME LBA: LBA is below the disk's number of blocks",
-            with(WIDE),
-        ))
-    } else if key == b"ring".as_slice() {
-        Some(make_row(
-            "ring NAME PAGES: PAGES is 1 to 16",
-            with(Form::Number { low: 1, high: 16 }),
-        ))
-    } else if key == b"window".as_slice() {
-        Some(make_row(
-            "window NAME N: N is 1 to 64",
-            with(Form::Number { low: 1, high: 64 }),
-        ))
-    } else {
-        None
-    }
-}
-
-fn offer_row(kind: &[u8]) -> Row {
-    if kind == b"disk".as_slice() {
-        make_row(
-            "offer disk NAME BLOCKS SUBS: BLOCKS is 1 to 1099511627776, SUBS 0 to 3",
-            [
+            Row::Offer => [Form::Kind, Form::Name, Form::End, Form::End, Form::End],
+            Row::OfferDisk => [
                 Form::Kind,
                 Form::Name,
                 Form::Number {
@@ -91,104 +105,67 @@ fn offer_row(kind: &[u8]) -> Row {
                 Form::Number { low: 0, high: 3 },
                 Form::End,
             ],
-        )
-    } else if kind == b"net".as_slice() {
-        make_row(
-            "offer net NAME MAC STATION: both addresses have 12 hexadecimal digits",
-            [
+            Row::OfferNet => [
                 Form::Kind,
                 Form::Name,
                 Form::Address,
                 Form::Address,
                 Form::End,
             ],
-        )
-    } else {
-        make_row(
-            "offer hb NAME, offer shutdown NAME, offer disk NAME BLOCKS SUBS or offer net NAME MAC STATION",
-            [Form::Kind, Form::Name, Form::End, Form::End, Form::End],
-        )
-    }
-}
-
-fn disk_row(key: &[u8]) -> Option<Row> {
-    if key == b"ready".as_slice() {
-        Some(make_row("ready NAME", NAME))
-    } else if key == b"inquiry".as_slice() {
-        Some(make_row("inquiry NAME", NAME))
-    } else if key == b"capacity".as_slice() {
-        Some(make_row("capacity NAME", NAME))
-    } else if key == b"capacity16".as_slice() {
-        Some(make_row("capacity16 NAME", NAME))
-    } else if key == b"flush".as_slice() {
-        Some(make_row("flush NAME", NAME))
-    } else if key == b"read".as_slice() {
-        Some(make_row(
-            "read NAME LBA COUNT: LBA is 0 to 18446744073709551615, COUNT 0 to 4",
-            [Form::Name, WIDE, COUNT, Form::End, Form::End],
-        ))
-    } else if key == b"write".as_slice() {
-        Some(make_row(
-            "write NAME LBA COUNT HH: LBA is 0 to 18446744073709551615, COUNT 0 to 4, HH two hexadecimal digits",
-            [Form::Name, WIDE, COUNT, Form::Byte, Form::End],
-        ))
-    } else {
-        None
-    }
-}
-
-fn other_row(key: &[u8]) -> Option<Row> {
-    if key == b"beat".as_slice() {
-        Some(make_row(
-            "beat NAME SEQ: SEQ is 0 to 18446744073709551615",
-            with(WIDE),
-        ))
-    } else if key == b"down".as_slice() {
-        Some(make_row(
-            "down NAME FLAGS: FLAGS is 0 to 4294967295",
-            with(Form::Number {
-                low: 0,
-                high: 4_294_967_295,
-            }),
-        ))
-    } else if key == b"query".as_slice() {
-        Some(make_row(
-            "query NAME OID: OID is 0x and 8 hexadecimal digits",
-            with(Form::Oid),
-        ))
-    } else if key == b"set".as_slice() {
-        Some(make_row(
-            "set NAME OID HEX: OID is 0x and 8 hexadecimal digits, HEX 1 to 64 bytes",
-            [
+            Row::Bad => [Form::Name, WIDE, Form::End, Form::End, Form::End],
+            Row::Ring => [
+                Form::Name,
+                Form::Number { low: 1, high: 16 },
+                Form::End,
+                Form::End,
+                Form::End,
+            ],
+            Row::Window => [
+                Form::Name,
+                Form::Number { low: 1, high: 64 },
+                Form::End,
+                Form::End,
+                Form::End,
+            ],
+            Row::Ready => [Form::Name, Form::End, Form::End, Form::End, Form::End],
+            Row::Inquiry => [Form::Name, Form::End, Form::End, Form::End, Form::End],
+            Row::Capacity => [Form::Name, Form::End, Form::End, Form::End, Form::End],
+            Row::LongCapacity => [Form::Name, Form::End, Form::End, Form::End, Form::End],
+            Row::Flush => [Form::Name, Form::End, Form::End, Form::End, Form::End],
+            Row::Read => [Form::Name, WIDE, COUNT, Form::End, Form::End],
+            Row::Write => [Form::Name, WIDE, COUNT, Form::Byte, Form::End],
+            Row::Beat => [Form::Name, WIDE, Form::End, Form::End, Form::End],
+            Row::Down => [
+                Form::Name,
+                Form::Number {
+                    low: 0,
+                    high: 4_294_967_295,
+                },
+                Form::End,
+                Form::End,
+                Form::End,
+            ],
+            Row::Query => [Form::Name, Form::Oid, Form::End, Form::End, Form::End],
+            Row::Set => [
                 Form::Name,
                 Form::Oid,
                 Form::Bytes { least: 1, most: 64 },
                 Form::End,
                 Form::End,
             ],
-        ))
-    } else if key == b"keep".as_slice() {
-        Some(make_row("keep NAME", NAME))
-    } else if key == b"reset".as_slice() {
-        Some(make_row("reset NAME", NAME))
-    } else if key == b"frame".as_slice() {
-        Some(make_row(
-            "frame NAME HEX: HEX is 14 to 1514 bytes",
-            with(Form::Bytes {
-                least: 14,
-                most: 1514,
-            }),
-        ))
-    } else {
-        ending_row(key)
-    }
-}
-
-fn ending_row(key: &[u8]) -> Option<Row> {
-    if key == b"rescind".as_slice() {
-        Some(make_row(
-            "rescind NAME after K, or rescind NAME after K held: K is 0 to 4096, and at least 1 before held",
-            [
+            Row::Keep => [Form::Name, Form::End, Form::End, Form::End, Form::End],
+            Row::Reset => [Form::Name, Form::End, Form::End, Form::End, Form::End],
+            Row::Frame => [
+                Form::Name,
+                Form::Bytes {
+                    least: 14,
+                    most: 1514,
+                },
+                Form::End,
+                Form::End,
+                Form::End,
+            ],
+            Row::Rescind => [
                 Form::Name,
                 Form::After,
                 Form::Number {
@@ -198,16 +175,126 @@ fn ending_row(key: &[u8]) -> Option<Row> {
                 Form::Held,
                 Form::End,
             ],
-        ))
+            Row::Close => [Form::Name, Form::End, Form::End, Form::End, Form::End],
+            Row::Modify => [
+                Form::Name,
+                Form::Number { low: 0, high: 63 },
+                Form::End,
+                Form::End,
+                Form::End,
+            ],
+            Row::Phase => [Form::End, Form::End, Form::End, Form::End, Form::End],
+        }
+    }
+}
+
+/// The row that begins with a word; of an offer the second word tells which.
+pub(crate) fn row_of(key: &[u8], second: &[u8]) -> Option<Row>
+    ensures { result ≡ row_of key.now second.now }
+{
+    if key == b"offer".as_slice() {
+        return Some(offer_row(second));
+    }
+    match settings_row(key) {
+        Some(row) => Some(row),
+        None => match disk_row(key) {
+            Some(row) => Some(row),
+            None => match device_row(key) {
+                Some(row) => Some(row),
+                None => ending_row(key),
+            },
+        },
+    }
+}
+
+// Of an offer.
+fn offer_row(kind: &[u8]) -> Row
+    ensures { result ≡ offer_row kind.now }
+{
+    if kind == b"disk".as_slice() {
+        Row::OfferDisk
+    } else if kind == b"net".as_slice() {
+        Row::OfferNet
+    } else {
+        Row::Offer
+    }
+}
+
+// Settings, but for offers.
+fn settings_row(key: &[u8]) -> Option<Row>
+    ensures { result ≡ settings_row key.now }
+{
+    if key == b"contact".as_slice() {
+        Some(Row::Contact)
+    } else if key == b"bad".as_slice() {
+        Some(Row::Bad)
+    } else if key == b"ring".as_slice() {
+        Some(Row::Ring)
+    } else if key == b"window".as_slice() {
+        Some(Row::Window)
+    } else {
+        None
+    }
+}
+
+// What a disk is asked.
+fn disk_row(key: &[u8]) -> Option<Row>
+    ensures { result ≡ disk_row key.now }
+{
+    if key == b"ready".as_slice() {
+        Some(Row::Ready)
+    } else if key == b"inquiry".as_slice() {
+        Some(Row::Inquiry)
+    } else if key == b"capacity".as_slice() {
+        Some(Row::Capacity)
+    } else if key == b"capacity16".as_slice() {
+        Some(Row::LongCapacity)
+    } else if key == b"flush".as_slice() {
+        Some(Row::Flush)
+    } else if key == b"read".as_slice() {
+        Some(Row::Read)
+    } else if key == b"write".as_slice() {
+        Some(Row::Write)
+    } else {
+        None
+    }
+}
+
+// What the other devices are asked.
+fn device_row(key: &[u8]) -> Option<Row>
+    ensures { result ≡ device_row key.now }
+{
+    if key == b"beat".as_slice() {
+        Some(Row::Beat)
+    } else if key == b"down".as_slice() {
+        Some(Row::Down)
+    } else if key == b"query".as_slice() {
+        Some(Row::Query)
+    } else if key == b"set".as_slice() {
+        Some(Row::Set)
+    } else if key == b"keep".as_slice() {
+        Some(Row::Keep)
+    } else if key == b"reset".as_slice() {
+        Some(Row::Reset)
+    } else if key == b"frame".as_slice() {
+        Some(Row::Frame)
+    } else {
+        None
+    }
+}
+
+// What ends or moves a channel, and a phase.
+fn ending_row(key: &[u8]) -> Option<Row>
+    ensures { result ≡ ending_row key.now }
+{
+    if key == b"rescind".as_slice() {
+        Some(Row::Rescind)
     } else if key == b"close".as_slice() {
-        Some(make_row("close NAME", NAME))
+        Some(Row::Close)
     } else if key == b"modify".as_slice() {
-        Some(make_row(
-            "modify NAME VP: VP is 0 to 63",
-            with(Form::Number { low: 0, high: 63 }),
-        ))
+        Some(Row::Modify)
     } else if key == b"phase".as_slice() {
-        Some(make_row("phase", NONE))
+        Some(Row::Phase)
     } else {
         None
     }

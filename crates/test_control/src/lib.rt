@@ -9,3 +9,5 @@ mod guest_end_tests;
 mod host_end_tests;
 #[cfg(test)]
 mod path_tests;
+#[cfg(test)]
+mod sock_tests;

@@ -177,3 +177,26 @@ fn services(rt: HostRuntime) {
     other[15] = 0xd2;
     check(&rt, port_in(&other) == None);
 }
+
+#[test]
+fn offered_services(rt: HostRuntime) {
+    let kind = Kind::Sock { port: 0x89ab_cdef };
+    let mut m = offer(kind, 1, 0);
+    check(&rt, parts(&m).0 == SERVICE_89ABCDEF);
+    check(
+        &rt,
+        read_offer(&m)
+            == Ok(Offered {
+                relid: 1,
+                kind,
+                sub: 0,
+            }),
+    );
+    let mut other = SERVICE_89ABCDEF;
+    other[4] = 0xcc;
+    if let Msg::OfferChannel { if_type, .. } = &mut m {
+        *if_type = other;
+    }
+    check(&rt, matches!(m, Msg::OfferChannel { .. }));
+    check(&rt, read_offer(&m) == Err(OfferFault::Class { id: other }));
+}

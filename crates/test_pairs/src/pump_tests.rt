@@ -8,12 +8,13 @@ use crate::check::check;
 use crate::only_seat::only_seat;
 use bus_script::{Ask, Reply};
 use contact::DeviceKind;
+use device_any::DeviceSeat;
 use io_edge::NoGate;
 use ring_seat::ChannelMem;
 use std::alloc::AllocGlobal;
 use std::process::Abort;
 use util_ic::{BeatMachine, IcAsk};
-use worker_pair::{ChannelPlan, DeviceSeat, GuestWorker, HostWorker, make_both, pump};
+use worker_pair::{ChannelPlan, GuestWorker, HostWorker, make_both, pump};
 use worker_port::Ended;
 
 // The heartbeats 7 and 8.

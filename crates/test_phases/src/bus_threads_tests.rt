@@ -12,6 +12,7 @@ use bus_script::{Ask, Reply};
 use bus_threads::{Pair, PairDone, open_pair, run_pair, run_phase};
 use chan_state::Stop;
 use contact::DeviceKind;
+use device_any::DeviceSeat;
 use io_edge::NoGate;
 use ring_core::Packets;
 use scsi_disk::{Chunk, Command, Disk, DiskReply, DiskRequest};
@@ -19,7 +20,6 @@ use std::alloc::AllocGlobal;
 use std::process::Abort;
 use std::sync::Wait;
 use util_ic::{BeatMachine, DownMachine, IcAsk};
-use worker_pair::DeviceSeat;
 
 // Three requests to a device of this kind, in a list.
 fn three(rt: &(impl Abort + AllocGlobal), kind: DeviceKind, asks: [Ask; 3]) -> Vec<Ask>

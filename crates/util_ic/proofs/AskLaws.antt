@@ -1,7 +1,7 @@
 -- Requests are read back from their bytes.
 use Rattle.std.proofs.Common.{◌≡◌, ℕ, ◌^◌, ◌<◌, ◌≤◌, true, false, nat_lt, nat_le, List, [], ◌∷◌, ◌++◌, length, Some, refl, ap, ◌∙◌, arith}
 use Rattle.std.proofs.lemmas.Bool.Decides.{nat_tests}
-use Rattle.wire_table.specs.Rows.{Row, DeviceKind, nums, raws, AllHave, nth_number}
+use Rattle.wire_table.specs.Rows.{Row, Kind, nums, raws, AllHave, nth_number}
 use Rattle.wire_table.proofs.RowLaws.{front_again}
 use Rattle.contact.specs.declared.kind.DeviceKind.TheVariants.{Beat as KindBeat, Down as KindDown}
 use Rattle.util_ic.specs.declared.ic.IcAsk.{IcAsk}
@@ -18,13 +18,13 @@ FitsAsk (Beat seq) = seq < 2 ^ 64
 FitsAsk (Down reason timeout flags) = (reason < 2 ^ 32) × (timeout < 2 ^ 32) × (flags < 2 ^ 32)
 
 -- the kinds of a request's rows
-abbrev pub header_kinds : List DeviceKind → List DeviceKind
+abbrev pub header_kinds : List Kind → List Kind
 header_kinds content = nums 4 ∷ nums 4 ∷ nums 2 ∷ nums 2 ∷ nums 2 ∷ nums 2 ∷ nums 2 ∷ nums 2 ∷ nums 4 ∷ nums 1 ∷ nums 1 ∷ nums 2 ∷ content
 
-abbrev pub beat_kinds : List DeviceKind
+abbrev pub beat_kinds : List Kind
 beat_kinds = header_kinds (nums 8 ∷ raws 32 ∷ [])
 
-abbrev pub down_kinds : List DeviceKind
+abbrev pub down_kinds : List Kind
 down_kinds = header_kinds (nums 4 ∷ nums 4 ∷ nums 4 ∷ raws 2048 ∷ [])
 
 abbrev pub beat_rows : ℕ → List Row
@@ -33,7 +33,7 @@ beat_rows seq = request_rows 3 1 40 (beat_content seq)
 abbrev pub down_rows : ℕ → ℕ → ℕ → List Row
 down_rows reason timeout flags = request_rows 3 3 2060 (down_content reason timeout flags)
 
-pub heads : (type size : ℕ) (kinds : List DeviceKind) (rows : List Row) → type < 65536 → size < 65536 → AllHave kinds rows → AllHave (header_kinds kinds) (request_rows 3 type size rows)
+pub heads : (type size : ℕ) (kinds : List Kind) (rows : List Row) → type < 65536 → size < 65536 → AllHave kinds rows → AllHave (header_kinds kinds) (request_rows 3 type size rows)
 heads type size kinds rows t s h =
     ((refl, omega arith), ((refl, omega arith), ((refl, omega arith), ((refl, omega arith), ((refl, omega arith), ((refl, omega arith), ((refl, omega arith), ((refl, omega arith), ((refl, omega arith), ((refl, omega arith), ((refl, omega arith), ((refl, omega arith), h))))))))))))
 

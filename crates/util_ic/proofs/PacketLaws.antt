@@ -3,7 +3,7 @@ use Rattle.std.proofs.Common.{◌≡◌, ℕ, zero, suc, ◌/◌, ◌<◌, ◌�
 use Rattle.std.specs.List.{AllByRecursion}
 use Rattle.contact.specs.declared.kind.DeviceKind.{DeviceKind}
 use Rattle.wire_table.specs.Little.{bytes_of}
-use Rattle.wire_table.specs.Rows.{Row, num, raw, DeviceKind as RowKind, nums, raws, AllHave, spelled_after, total}
+use Rattle.wire_table.specs.Rows.{Row, num, raw, Kind as RowKind, nums, raws, AllHave, spelled_after, total}
 use Rattle.wire_table.proofs.RowLaws.{length-spelled_after, take_bytes}
 use Rattle.pkt_desc.specs.Packets.{inband_packet, Carries}
 use Rattle.pkt_desc.proofs.PacketLaws.{plain_carries}

@@ -1,9 +1,11 @@
 -- A packet's descriptor and a refusal as the numbers that C sees.
-use Rattle.std.specs.Prelude.{◌≡◌, ℕ, ◌+◌, ◌<◌, ◌≤◌, List, length, slice_index}
+use Rattle.std.specs.Prelude.{◌≡◌, ℕ, ◌+◌, ◌%◌, ◌^◌, ◌<◌, ◌≤◌, List, length, slice_index}
 use Rattle.pkt_desc.specs.Packets.{IsPacket, kind_of, offset8_of}
-use Rattle.pkt_desc.specs.Ranges.{RangesFit, high_32, low_32, span_words}
+use Rattle.pkt_desc.specs.Ranges.{RangesFit, high_32, low_32, range_count, span_words}
 use Rattle.vm_page.specs.Cuts.{pages_for}
 use Rattle.vmbus_c.specs.declared.packets.VmbusRange.{VmbusRange}
+use Rattle.vmbus_c.specs.declared.packets.VmbusTransfer.{VmbusTransfer}
+use Rattle.vmbus_c.specs.declared.packets.VmbusPart.{VmbusPart}
 use Rattle.pkt_desc.specs.declared.desc.Desc.{Desc}
 use Rattle.pkt_desc.specs.declared.desc.PacketFault.{PacketFault}
 use Rattle.pkt_desc.specs.declared.desc.PacketFault.TheVariants.{Length, Offset, Ranges}
@@ -34,3 +36,18 @@ abbrev pub range_at : List ℕ → ℕ → VmbusRange
 range_at words at =
     let word = slice_index words at in
     record { bytes = low_32 word; offset = high_32 word; frames_at = at + 1; frames = pages_for (high_32 word) (low_32 word) }
+
+-- a packet of type 7
+pub record NamesParts (words : List ℕ) : Type 0 where
+  pub two : 2 ≤ length words
+  pub packet : IsPacket words
+  pub ranges : RangesFit words
+  pub kind : kind_of words ≡ 7
+
+-- the number of its buffer, and how many ranges of it there are
+abbrev pub transfer_of : List ℕ → VmbusTransfer
+transfer_of words = record { pageset = slice_index words 2 % 2 ^ 16; parts = range_count words }
+
+-- a range of it
+abbrev pub part_at : List ℕ → ℕ → VmbusPart
+part_at words number = record { bytes = low_32 (slice_index words (3 + number)); offset = high_32 (slice_index words (3 + number)) }

@@ -1,7 +1,6 @@
 //! Control messages, packets, the utility answers and the signal decisions of this library, for callers in C: functions on numbers and byte slices. examples/c/vmbus.h declares them.
 #![tactic(auto)]
 
-mod front;
 mod messages;
 mod packets;
 mod services;

@@ -1,11 +1,11 @@
 //! Packets of a ring.
-ghost use Rattle.std.specs.Prelude.{◌≡◌, ◌≢◌, ◌≤◌, ◌<◌, length, Some};
+ghost use Rattle.std.specs.Prelude.{◌≡◌, ◌≢◌, ◌+◌, ◌≤◌, ◌<◌, true, length, Some};
 ghost use Rattle.pkt_desc.specs.Packets.{IsPacket, desc_of};
-ghost use Rattle.pkt_desc.specs.Ranges.{RangesFit, high_32, low_32};
+ghost use Rattle.pkt_desc.specs.Ranges.{RangesFit, high_32, low_32, range_count};
 ghost use Rattle.vm_page.specs.Cuts.{pages_for};
 ghost use Rattle.pkt_desc.specs.Faults.{fault_of};
 ghost use Rattle.pkt_desc.specs.declared.desc.PacketFault.{PacketFault as Fault};
-ghost use Rattle.vmbus_c.specs.Packets.{HasRange, NamesPages, fields_of, number_of, range_at};
+ghost use Rattle.vmbus_c.specs.Packets.{HasRange, NamesPages, NamesParts, fields_of, number_of, part_at, range_at, transfer_of};
 
 use pkt_desc::{Desc, PacketFault, parse};
 
@@ -136,5 +136,80 @@ pub extern "C" fn vmbus_packet_range(words: &[u64], at: u32, range: &mut VmbusRa
         frames_at: at + 1,
         frames: frames as u32,
     };
+    0
+}
+
+/// What a packet of type 7 names: ranges of a buffer (Linux `include/linux/hyperv.h`, struct `vmtransfer_page_packet_header`).
+#[repr(C)]
+#[derive(Clone, Copy)]
+pub struct VmbusTransfer {
+    /// The number of the buffer.
+    pub pageset: u32,
+    /// How many ranges there are.
+    pub parts: u32,
+}
+
+/// A range of a buffer that a packet of type 7 names (Linux `include/linux/hyperv.h`, struct `vmtransfer_page_range`).
+#[repr(C)]
+#[derive(Clone, Copy)]
+pub struct VmbusPart {
+    /// How many bytes it has.
+    pub bytes: u32,
+    /// Where it begins in the buffer.
+    pub offset: u32,
+}
+
+// A packet of type 7, with at least three words, all of whose ranges stand before its payload.
+fn is_transfer(words: &[u64]) -> bool
+    ensures is { result ≡ true → NamesParts words.now }
+    ensures only { NamesParts words.now → result ≡ true }
+    ensures ranges { result ≡ true → 3 + range_count words.now ≤ length words.now }
+{
+    if words.len() < 2 {
+        return false;
+    }
+    match parse(words) {
+        Ok(desc) => desc.kind == 7,
+        Err(_) => false,
+    }
+}
+
+/// Reads what the packet of type 7 that the words are names, and answers 0. It answers 1 where they are no packet of type 7 (`vmbus_packet_read`); then `transfer` stays.
+#[unsafe(no_mangle)]
+pub extern "C" fn vmbus_packet_transfer_read(words: &[u64], transfer: &mut VmbusTransfer) -> u32
+    ensures read { NamesParts words.now → (result ≡ 0) × (transfer.new ≡ transfer_of words.now) }
+    ensures only { result ≢ 1 → NamesParts words.now }
+    ensures two { result ≤ 1 }
+    ensures kept { result ≢ 0 → transfer.new ≡ transfer.old }
+{
+    if !is_transfer(words) {
+        return 1;
+    }
+    let (low, parts) = halves(words[2]);
+    *transfer = VmbusTransfer {
+        pageset: low % 0x1_0000,
+        parts,
+    };
+    0
+}
+
+/// Reads range `number`, from 0 on, of the packet of type 7 that the words are, and answers 0. It answers 1 where they are no packet of type 7 (`vmbus_packet_read`), or else
+/// 2 where it has no such range; then `part` stays.
+#[unsafe(no_mangle)]
+pub extern "C" fn vmbus_packet_part(words: &[u64], number: u32, part: &mut VmbusPart) -> u32
+    ensures read { NamesParts words.now → number < range_count words.now → (result ≡ 0) × (part.new ≡ part_at words.now number) }
+    ensures only { result ≢ 1 → NamesParts words.now }
+    ensures here { result ≡ 0 → number < range_count words.now }
+    ensures three { result ≤ 2 }
+    ensures kept { result ≢ 0 → part.new ≡ part.old }
+{
+    if !is_transfer(words) {
+        return 1;
+    }
+    if number >= halves(words[2]).1 {
+        return 2;
+    }
+    let (bytes, offset) = halves(words[3 + number as usize]);
+    *part = VmbusPart { bytes, offset };
     0
 }

@@ -5,8 +5,8 @@ ghost use Rattle.vmbus_msg.specs.declared.msg.Msg.{Msg as Message};
 ghost use Rattle.vmbus_c.specs.Messages.{fields_of};
 ghost use Rattle.vmbus_c.specs.MessageWriting.{Stands, message_of};
 
-use crate::front::put_front;
 use crate::messages::{VmbusMessage, fields};
+use vmbus_fault::put_front;
 use vmbus_msg::{Msg, encode};
 use wire_table::array_at;
 

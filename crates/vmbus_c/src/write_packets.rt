@@ -1,13 +1,14 @@
 //! Packets of a ring, written.
-ghost use Rattle.std.specs.Prelude.{◌≡◌, ◌≢◌, ◌+◌, ◌*◌, ◌≤◌, ◌<◌, ◌^◌, List, length, take, drop};
+ghost use Rattle.std.specs.Prelude.{◌≡◌, ◌≢◌, ◌+◌, ◌*◌, ◌≤◌, ◌<◌, ◌^◌, List, length, map, take, drop};
 ghost use Rattle.vm_page.specs.Words.{words_for};
 ghost use Rattle.vm_page.specs.Cuts.{IsCutOf, parts_count};
 ghost use Rattle.vm_page.specs.declared.span.Span.{Span as Part};
-ghost use Rattle.pkt_desc.specs.Built.{CarriesSpans, gpa_packet};
-ghost use Rattle.vmbus_c.specs.PacketWriting.{CanName, pages_words};
+ghost use Rattle.pkt_desc.specs.Built.{CarriesParts, CarriesSpans, gpa_packet, xfer_packet};
+ghost use Rattle.vmbus_c.specs.PacketWriting.{CanName, pages_words, part_of, parts_words};
 ghost use Rattle.pkt_desc.specs.Packets.{Carries, inband_packet, completion_packet};
 
-use pkt_desc::{build_comp, build_gpa, build_inband};
+use crate::packets::VmbusPart;
+use pkt_desc::{build_comp, build_gpa, build_inband, build_xfer};
 use vm_page::{Span, spans};
 
 // The most words of a packet that this library builds.
@@ -130,5 +131,62 @@ pub extern "C" fn vmbus_packet_pages(
         return 2;
     }
     build_gpa(out, tid, &parts[..count], payload);
+    0
+}
+
+// The most ranges of a packet of type 7 that this library builds.
+const MOST_PARTS: usize = 381;
+
+// The bytes and the offset of a range.
+fn pair(part: VmbusPart) -> (u32, u32)
+    ensures { result ≡ part_of part }
+{
+    (part.bytes, part.offset)
+}
+
+// The bytes and the offset of each range, in front of what stood there.
+fn put_parts(parts: &[VmbusPart], out: &mut [(u32, u32); 381])
+    requires { length parts.now ≤ 381 }
+    ensures { take (length parts.now) out.new ≡ map part_of parts.now }
+{
+    for i in 0..parts.len() {
+        out[i] = pair(parts[i]);
+    }
+}
+
+/// Writes a packet of type 7 at the front of `out`, with flags 1, that names these ranges of the buffer with the number `pageset`: a word for each range, and then the
+/// payload, padded with zeros to whole words. It answers 0, or 1 where `pageset` has more than 16 bits or the packet more than 384 words, or else 2 where `out` is too
+/// small; then `out` stays. `len` is then how many words the packet has; where the answer is 1 it stays.
+#[unsafe(no_mangle)]
+pub extern "C" fn vmbus_packet_transfer(
+    tid: u64,
+    pageset: u32,
+    parts: &[VmbusPart],
+    payload: &[u8],
+    out: &mut [u64],
+    len: &mut usize,
+) -> u32
+    ensures written { pageset < 2 ^ 16 → parts_words parts.now payload.now ≤ 384 → parts_words parts.now payload.now ≤ length out.old → (result ≡ 0) × (take len.new out.new ≡ xfer_packet tid pageset (map part_of parts.now) payload.now) × CarriesParts (take len.new out.new) tid pageset (map part_of parts.now) payload.now }
+    ensures room { pageset < 2 ^ 16 → parts_words parts.now payload.now ≤ 384 → length out.old < parts_words parts.now payload.now → result ≡ 2 }
+    ensures none { result ≢ 1 → (pageset < 2 ^ 16) × (parts_words parts.now payload.now ≤ 384) × (len.new ≡ parts_words parts.now payload.now) }
+    ensures fits { result ≡ 0 → parts_words parts.now payload.now ≤ length out.old }
+    ensures three { result ≤ 2 }
+    ensures rest { result ≡ 0 → drop len.new out.new ≡ drop len.new out.old }
+    ensures kept { (result ≢ 0 → out.new ≡ out.old) × (result ≡ 1 → len.new ≡ len.old) }
+{
+    if pageset > 0xffff || parts.len() > MOST_PARTS {
+        return 1;
+    }
+    let count = words(3 + parts.len(), payload);
+    if count > MOST_WORDS {
+        return 1;
+    }
+    *len = count;
+    if out.len() < count {
+        return 2;
+    }
+    let mut ranges = [(0, 0); 381];
+    put_parts(parts, &mut ranges);
+    build_xfer(out, tid, pageset as u16, &ranges[..parts.len()], payload);
     0
 }

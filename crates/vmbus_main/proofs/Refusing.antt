@@ -3,7 +3,7 @@ use Rattle.std.proofs.Common.{◌≡◌, ◌∙◌, ◌≤◌, ℕ, List, length
 use Rattle.script_text.specs.declared.fault.ScriptFault.{ScriptFault}
 use Rattle.io_edge.specs.Edge.{HoldsWhole}
 use Rattle.bus_model.specs.declared.channel_run.ChannelRun.{ChannelRun}
-use Rattle.bus_model.specs.declared.history.DeviceHistory.{DeviceHistory}
+use Rattle.device_kinds.specs.declared.history.DeviceHistory.{DeviceHistory}
 use Rattle.vmbus_main.specs.declared.command.Command.TheVariants.{Input}
 use Rattle.vmbus_main.specs.declared.command.InputCommand.{InputCommand}
 use Rattle.vmbus_main.specs.declared.command.InputCommand.TheVariants.{Run, Decode, Trace, Hostile}

@@ -12,7 +12,7 @@ use Rattle.hostile_run.specs.Run.{IsHostileOutput}
 use Rattle.script_load.specs.Load.{load_lines}
 use Rattle.script_load.specs.Counts.{load_output}
 use Rattle.bus_model.specs.declared.channel_run.ChannelRun.{ChannelRun}
-use Rattle.bus_model.specs.declared.history.DeviceHistory.{DeviceHistory}
+use Rattle.device_kinds.specs.declared.history.DeviceHistory.{DeviceHistory}
 use Rattle.bus_model.specs.Run.{IsBusRun}
 use Rattle.vmbus_main.specs.declared.command.InputCommand.{InputCommand}
 use Rattle.vmbus_main.specs.declared.outcome.Controls.{Controls}

@@ -4,7 +4,7 @@ use Rattle.script_text.specs.declared.fault.ScriptFault.{ScriptFault}
 use Rattle.script_text.specs.declared.fault.Why6.TheVariants.{Limit}
 use Rattle.io_edge.specs.Edge.{HoldsWhole, IsLonger, GaveMore, IsAtEnd, Grows, GrowsByFront}
 use Rattle.bus_model.specs.declared.channel_run.ChannelRun.{ChannelRun}
-use Rattle.bus_model.specs.declared.history.DeviceHistory.{DeviceHistory}
+use Rattle.device_kinds.specs.declared.history.DeviceHistory.{DeviceHistory}
 use Rattle.vmbus_main.specs.declared.command.Command.{Command}
 use Rattle.vmbus_main.specs.declared.command.Command.TheVariants.{Input, Load}
 use Rattle.vmbus_main.specs.declared.outcome.Controls.{Controls}

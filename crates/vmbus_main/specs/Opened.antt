@@ -6,7 +6,7 @@ use Rattle.bus_model.specs.Run.{IsBusRun}
 use Rattle.control_model.specs.declared.opening.Opening.{Opening}
 use Rattle.control_model.specs.Plan.{BusPlan}
 use Rattle.bus_model.specs.declared.channel_run.ChannelRun.{ChannelRun}
-use Rattle.bus_model.specs.declared.history.DeviceHistory.{DeviceHistory}
+use Rattle.device_kinds.specs.declared.history.DeviceHistory.{DeviceHistory}
 use Rattle.vmbus_main.specs.declared.outcome.Controls.{Controls}
 use Rattle.vmbus_main.specs.Controls.{AreControls}
 

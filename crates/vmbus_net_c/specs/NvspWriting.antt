@@ -1,5 +1,5 @@
 -- The NVSP message of the type that numbers give.
-use Rattle.std.specs.Prelude.{ℕ, ◌%◌, ◌^◌, ◌==◌, Option, Some, None, if◌then◌else◌}
+use Rattle.std.specs.Prelude.{◌%◌, ◌^◌, ◌==◌, Option, Some, None, if◌then◌else◌}
 use Rattle.net_dev.specs.declared.nvsp.Nvsp.{Nvsp}
 use Rattle.net_dev.specs.declared.nvsp.Nvsp.TheVariants.{Init, InitComplete, NdisVersion, ReceiveBuffer, ReceiveBufferComplete, SendBuffer, SendBufferComplete, RndisPacket, RndisPacketComplete}
 use Rattle.vmbus_net_c.specs.declared.network.VmbusNvsp.{VmbusNvsp}

@@ -5,9 +5,9 @@ ghost use Rattle.net_dev.specs.declared.nvsp.Nvsp.{Nvsp as NvspMessage};
 ghost use Rattle.vmbus_net_c.specs.Network.{nvsp_fields};
 ghost use Rattle.vmbus_net_c.specs.NvspWriting.{nvsp_of};
 
-use crate::front::put_front;
 use crate::network::{VmbusNvsp, nvsp_fields};
 use net_dev::{Nvsp, encode_nvsp};
+use vmbus_fault::put_front;
 
 // The low 16 bits of a number.
 fn low_16(number: u32) -> u16
@@ -75,6 +75,7 @@ fn are_same(a: &VmbusNvsp, b: &VmbusNvsp) -> bool
 // The message whose numbers these are, if there is one.
 fn message_of(v: &VmbusNvsp) -> Option<Nvsp>
     ensures whose { IfSome result (λ m. nvsp_fields m ≡ v.now) }
+    ensures form { IfSome result (λ m. InForm m) }
     ensures only { (m : NvspMessage) → InForm m → nvsp_fields m ≡ v.now → result ≡ Some m }
 {
     let m = shaped(v)?;
@@ -103,7 +104,7 @@ pub extern "C" fn vmbus_nvsp_write(message: &VmbusNvsp, out: &mut [u8]) -> u32
     ensures written { result ≡ 0 → (m : NvspMessage) × ((nvsp_fields m ≡ message.now) × (take 40 out.new ≡ nvsp_bytes m) × ((more : List ℕ) → IsNvsp m (nvsp_bytes m ++ more))) }
     ensures every { (m : NvspMessage) → InForm m → nvsp_fields m ≡ message.now → 40 ≤ length out.old → (result ≡ 0) × (take 40 out.new ≡ nvsp_bytes m) }
     ensures none { result ≡ 1 → (m : NvspMessage) → InForm m → nvsp_fields m ≢ message.now }
-    ensures room { result ≡ 2 → ((m : NvspMessage) × (nvsp_fields m ≡ message.now)) × (length out.old < 40) }
+    ensures room { result ≡ 2 → ((m : NvspMessage) × (InForm m × (nvsp_fields m ≡ message.now))) × (length out.old < 40) }
     ensures three { result ≤ 2 }
     ensures rest { drop 40 out.new ≡ drop 40 out.old }
     ensures kept { result ≢ 0 → out.new ≡ out.old }

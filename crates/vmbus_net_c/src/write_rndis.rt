@@ -6,9 +6,9 @@ ghost use Rattle.rndis_msg.specs.declared.rndis.Rndis.{Rndis as RndisMessage};
 ghost use Rattle.vmbus_net_c.specs.Network.{rndis_fields};
 ghost use Rattle.vmbus_net_c.specs.RndisWriting.{rndis_of};
 
-use crate::front::put_front;
 use crate::network::{VmbusRndis, rndis_fields};
 use rndis_msg::{Rndis, Small, encode};
+use vmbus_fault::put_front;
 
 // The message of the type that the numbers give, of those numbers that the type has, with this buffer where the type has one.
 fn shaped(v: &VmbusRndis, body: &[u8]) -> Option<Rndis>
@@ -85,6 +85,7 @@ fn are_same(a: &VmbusRndis, b: &VmbusRndis) -> bool
 // The message whose numbers and whose buffer these are, if there is one.
 fn message_of(v: &VmbusRndis, body: &[u8]) -> Option<Rndis>
     ensures whose { IfSome result (λ m. (rndis_fields m ≡ v.now) × (body_of m ≡ body.now)) }
+    ensures form { IfSome result (λ m. InForm m) }
     ensures only { (m : RndisMessage) → InForm m → rndis_fields m ≡ v.now → body_of m ≡ body.now → result ≡ Some m }
 {
     if body.len() > 1514 || body.len() != v.body_len as usize {
@@ -121,7 +122,7 @@ pub extern "C" fn vmbus_rndis_write(
     ensures written { result ≡ 0 → (m : RndisMessage) × ((rndis_fields m ≡ message.now) × (body_of m ≡ body.now) × (len.new ≡ length (rndis_bytes m)) × (take len.new out.new ≡ rndis_bytes m) × ((padding : List ℕ) → BeginsWith m (rndis_bytes m ++ padding))) }
     ensures every { (m : RndisMessage) → InForm m → rndis_fields m ≡ message.now → body_of m ≡ body.now → length (rndis_bytes m) ≤ length out.old → result ≡ 0 }
     ensures none { result ≡ 1 → (len.new ≡ len.old) × ((m : RndisMessage) → InForm m → rndis_fields m ≡ message.now → body_of m ≢ body.now) }
-    ensures room { result ≡ 2 → (m : RndisMessage) × ((rndis_fields m ≡ message.now) × (body_of m ≡ body.now) × (len.new ≡ length (rndis_bytes m)) × (length out.old < length (rndis_bytes m))) }
+    ensures room { result ≡ 2 → (m : RndisMessage) × (InForm m × (rndis_fields m ≡ message.now) × (body_of m ≡ body.now) × (len.new ≡ length (rndis_bytes m)) × (length out.old < length (rndis_bytes m))) }
     ensures three { result ≤ 2 }
     ensures rest { result ≡ 0 → drop len.new out.new ≡ drop len.new out.old }
     ensures kept { result ≢ 0 → out.new ≡ out.old }

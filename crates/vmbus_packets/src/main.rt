@@ -5,7 +5,7 @@ ghost use Rattle.std.specs.Prelude.{◌≡◌, IfOk};
 ghost use Rattle.packet_text.specs.Lines.{packets_text};
 
 use io_edge::{NoGate, Source, StdSink, StdSource, SureSink, write_all};
-use packet_text::{Form, write_packets};
+use packet_text::{Form, packets_text};
 use std::alloc::{AllocError, Global};
 use std::env;
 use std::io::writer;
@@ -44,8 +44,7 @@ fn packets_of<R: Threads + Wait + Sync, S: Source>(
     let words = [b"run".to_vec(alloc)?];
     let mut report = SureSink::make(alloc, 67_108_864)?;
     let outcome = vmbus(rt, alloc, &words, source, &mut report, &NoGate);
-    let mut text = Vec::new(alloc);
-    write_packets(&mut text, form, &outcome.settled)?;
+    let text = packets_text(alloc, form, &outcome.settled)?;
     Ok((outcome, text))
 }
 

@@ -5,8 +5,8 @@ ghost use Rattle.stor_proto.specs.declared.vstor.Vstor.{Vstor as Packet};
 ghost use Rattle.stor_proto.specs.declared.fault.VstorFault.{VstorFault as Fault};
 ghost use Rattle.vmbus_stor_c.specs.Storage.{fields_of, number_of, packet_of};
 
-use crate::front::put_front;
 use stor_proto::{Operation, Vstor, VstorFault, decode_vstor, encode_vstor};
+use vmbus_fault::put_front;
 use wire_table::array_at;
 
 /// The numbers of a storage packet (Linux `drivers/scsi/storvsc_drv.c`, struct `vstor_packet`). 52 bytes follow them: an srb, a version, properties or a count.

@@ -19,8 +19,8 @@ use Rattle.worker_server.specs.Serving.{Serving, ServeEnds, ServesOn, EndsBy, Ev
 use Rattle.worker_server.proofs.ResponderLaws.{behind_is, front_is}
 use Rattle.worker_server.proofs.ServeSteps.{ends_on, lacks_on, tried_on}
 use Rattle.worker_pair.specs.Leaving.{LeavesAsked, LeavesServed, StandsAsking, StandsServing, WorkerDone, items_in, told_at}
-use Rattle.worker_pair.specs.Seats.{served_at, device_place, left_at}
-use Rattle.worker_pair.specs.declared.device_seat.DeviceSeat.{DeviceSeat}
+use Rattle.device_any.specs.Seats.{served_at, device_place, left_at}
+use Rattle.device_any.specs.declared.device_seat.DeviceSeat.{DeviceSeat}
 
 -- what it leaves is what was asked of it at its beginning
 pub served_on : (u v : Serving ChannelScript DeviceSeat TableSeat Ask Reply) (d : WorkerDone) → ServesOn (λ s t. device_place t ≡ device_place s) (λ (s : TableSeat). s.seat.table_id) (λ (s : TableSeat). Some (told_in s.seat.me.0)) u v → LeavesServed v d → LeavesServed u d
@@ -31,13 +31,13 @@ served_on u v d on leaves =
       serves = ends_on (λ s t. device_place t ≡ device_place s) (λ (s : TableSeat). s.seat.table_id) (λ (s : TableSeat). Some (told_in s.seat.me.0)) (λ (t : ChannelScript). item_format t.kind) (λ (t : ChannelScript). besides_on t.kind) d.ended u v (line_of (λ i. i) d.end) (calls_behind u.responder.before (served_at leaves.back)) on (subst (λ l. EndsBy (item_format v.responder.protocol.kind) (besides_on v.responder.protocol.kind) d.ended v (line_of (λ i. i) d.end) (calls_behind l (served_at leaves.back))) on.before leaves.serves);
       tried = record {
         before = leaves.tried.before;
-        same = record { seat = leaves.tried.same.seat ∙ on.end.seat; side = leaves.tried.same.side ∙ on.end.side };
+        same = record { seat = leaves.tried.same.seat ∙ on.end.seat; side = leaves.tried.same.side ∙ on.end.side; pages = leaves.tried.same.pages ∙ on.end.pages };
         tried = tried_on (λ s t. device_place t ≡ device_place s) (λ (s : TableSeat). s.seat.table_id) (λ (s : TableSeat). Some (told_in s.seat.me.0)) (λ (s : TableSeat). None) (λ (t : ChannelScript). item_format t.kind) (λ (t : ChannelScript). besides_on t.kind) d.ended u v leaves.tried.before (line_of (λ i. i) d.end) (calls_behind u.responder.before (served_at leaves.back)) on
             (subst (λ l. LeavesTried (λ (s : TableSeat). Some (told_in s.seat.me.0)) (λ (s : TableSeat). None) (item_format v.responder.protocol.kind) (besides_on v.responder.protocol.kind) d.ended v leaves.tried.before (line_of (λ i. i) d.end) (calls_behind l (served_at leaves.back))) on.before leaves.tried.tried);
       };
       before = subst (λ l. take (length l) (served_at leaves.back) ≡ l) on.before leaves.before;
       serials = subst (λ l. d.serials.items ≡ map (λ c. c.serial) (calls_behind l (served_at leaves.back))) on.before leaves.serials;
-      end = record { seat = leaves.end.seat ∙ on.end.seat; side = leaves.end.side ∙ on.end.side };
+      end = record { seat = leaves.end.seat ∙ on.end.seat; side = leaves.end.side ∙ on.end.side; pages = leaves.end.pages ∙ on.end.pages };
       place = leaves.place ∙ on.seat;
       stands = leaves.stands;
       honest = leaves.honest;
@@ -50,7 +50,7 @@ pub asked_on : (u v : Asking ChannelScript TableSeat Reply) (d : WorkerDone) →
 asked_on u v d on leaves =
     record {
       asks = subst (λ (t : ChannelScript). AsksBy (item_format t.kind) d.ended (asks_of t) (items_in d.end) d.replies.items) on.protocol leaves.asks;
-      end = record { seat = leaves.end.seat ∙ on.end.seat; side = leaves.end.side ∙ on.end.side };
+      end = record { seat = leaves.end.seat ∙ on.end.seat; side = leaves.end.side ∙ on.end.side; pages = leaves.end.pages ∙ on.end.pages };
       stands = leaves.stands;
       honest = leaves.honest;
       sent = subst (λ (t : ChannelScript). AskedWithin (item_format t.kind) (length (asks_of t)) (items_in d.end)) on.protocol leaves.sent;
@@ -60,7 +60,7 @@ asked_on u v d on leaves =
       acks = subst (λ (t : ChannelScript). EndsAcked (item_format t.kind) d.ended (line_of (λ i. i) d.end)) on.protocol leaves.acks;
       tried = record {
         before = leaves.tried.before;
-        same = record { seat = leaves.tried.same.seat ∙ on.end.seat; side = leaves.tried.same.side ∙ on.end.side };
+        same = record { seat = leaves.tried.same.seat ∙ on.end.seat; side = leaves.tried.same.side ∙ on.end.side; pages = leaves.tried.same.pages ∙ on.end.pages };
         tried = subst (λ (t : ChannelScript). EndTried (λ (s : TableSeat). Some (told_in s.seat.me.0)) (λ (s : TableSeat). None) (item_format t.kind) d.ended leaves.tried.before (line_of (λ i. i) d.end)) on.protocol leaves.tried.tried;
       };
       seat = leaves.seat;
@@ -83,7 +83,7 @@ asked_stands how v w on cause tried turns room honest = (
   room.3,
   ends_acked (item_format w.protocol.kind) (besides_on w.protocol.kind) (asks_of w.protocol) w how turns.1,
   honest,
-  record { before = v.end.end; same = record { seat = sym on.end.seat; side = sym on.end.side }; tried = tried (awake_of v.end.state.machine.asleep cause.asleep) },
+  record { before = v.end.end; same = record { seat = sym on.end.seat; side = sym on.end.side; pages = sym on.end.pages }; tried = tried (awake_of v.end.state.machine.asleep cause.asleep) },
 )
 
 -- and the end that serves
@@ -95,7 +95,7 @@ served_stands how v w on cause tried turns room honest = (
   room.0,
   room.1,
   honest,
-  record { before = v.end.end; same = record { seat = sym on.end.seat; side = sym on.end.side }; tried = tried (awake_of v.end.state.machine.asleep cause.asleep) },
+  record { before = v.end.end; same = record { seat = sym on.end.seat; side = sym on.end.side; pages = sym on.end.pages }; tried = tried (awake_of v.end.state.machine.asleep cause.asleep) },
 )
 
 -- what a worker leaves that has ended so
@@ -107,7 +107,7 @@ asker_leaves w how d h ended line stands asks seat serials =
     let both : (how, w.end) ≡ (d.ended, line_of (λ i. i) d.end) = λ i. (sym ended i, line i) in
     record {
       asks = asks;
-      end = record { seat = ap (λ (l : Line TableSeat). l.end.seat.seat.table_id) (sym line); side = ap (λ (l : Line TableSeat). l.end.state.machine.side) (sym line) };
+      end = record { seat = ap (λ (l : Line TableSeat). l.end.seat.seat.table_id) (sym line); side = ap (λ (l : Line TableSeat). l.end.state.machine.side) (sym line); pages = ap (λ (l : Line TableSeat). l.end.state.pages.count) (sym line) };
       stands = stands;
       honest = ap is_broken ended ∙ h.6;
       sent = subst (λ (l : Line TableSeat). AskedWithin s (length asked) l.state.past) line h.1;
@@ -135,7 +135,7 @@ server_leaves w how d back h ended line stands seat is calls serials replies =
           (subst (ServerTried (λ (s : TableSeat). s.seat.table_id) told_at (λ (s : TableSeat). None) s besides how w w.end) (sym behind) h.4);
       before = front_is w.responder.before w.responder.before w.responder.calls (served_at back) calls refl;
       serials = serials ∙ ap (map (λ c. c.serial)) (sym behind);
-      end = record { seat = ap (λ (l : Line TableSeat). l.end.seat.seat.table_id) (sym line); side = ap (λ (l : Line TableSeat). l.end.state.machine.side) (sym line) };
+      end = record { seat = ap (λ (l : Line TableSeat). l.end.seat.seat.table_id) (sym line); side = ap (λ (l : Line TableSeat). l.end.state.machine.side) (sym line); pages = ap (λ (l : Line TableSeat). l.end.state.pages.count) (sym line) };
       place = ap device_place is;
       stands = stands;
       honest = ap is_broken ended ∙ h.3;

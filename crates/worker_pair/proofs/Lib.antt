@@ -1,4 +1,3 @@
-pub mod SeatLaws
 pub mod Opening
 pub mod Going
 pub mod NewEnds

@@ -13,7 +13,7 @@ use Rattle.channel_model.specs.Channel.{count_of}
 use Rattle.worker_pair.specs.Pairs.{AreRoles, ArePair, IsNewEnd, PlansAgree}
 use Rattle.worker_pair.specs.Plans.{AsksFor, Planned, ServesFor}
 use Rattle.worker_pair.specs.Workers.{IsLive, end_at}
-use Rattle.worker_pair.specs.declared.device_seat.DeviceSeat.{DeviceSeat}
+use Rattle.device_any.specs.declared.device_seat.DeviceSeat.{DeviceSeat}
 use Rattle.worker_pair.specs.declared.worker.Worker.{Worker}
 use Rattle.worker_pair.proofs.Opening.{asks_length}
 
@@ -40,6 +40,7 @@ pair_of g h guest host one g_new h_new at_g at_h guest_live host_live roles = re
     guest = ap (λ s. s.machine.side) at_g.0 ∙ one.guest;
     host = ap (λ s. s.machine.side) at_h.0 ∙ one.host;
   };
+  bare = (ap (λ s. s.pages.count) (at_g.0 ∙ g_new.3), ap (λ s. s.pages.count) (at_h.0 ∙ h_new.3));
   guest_live = guest_live;
   host_live = host_live;
   roles = roles;

@@ -16,8 +16,9 @@ use Rattle.worker_requester.specs.Asking.{Asking, AskedFrom, AsksBy, EndsAcked, 
 use Rattle.worker_port.specs.Rooms.{AskedWithin, ServedWithin, AskLacksFor, ServeLacksFor, is_broken}
 use Rattle.worker_server.specs.Serving.{Serving, EndsBy, calls_behind, EverTried as ServerTried}
 use Rattle.worker_port.specs.declared.ended.Ended.{Ended}
-use Rattle.worker_pair.specs.Seats.{served_at, device_place, at_guest, at_host}
-use Rattle.worker_pair.specs.declared.device_seat.DeviceSeat.{DeviceSeat}
+use Rattle.device_any.specs.Seats.{served_at, device_place}
+use Rattle.worker_pair.specs.Seats.{at_guest, at_host}
+use Rattle.device_any.specs.declared.device_seat.DeviceSeat.{DeviceSeat}
 use Rattle.worker_pair.specs.declared.done.Done.{Done}
 use Rattle.worker_pair.specs.declared.guest_seat.GuestSeat.{GuestSeat}
 use Rattle.worker_pair.specs.declared.host_seat.HostSeat.{HostSeat}

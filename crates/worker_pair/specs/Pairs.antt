@@ -13,7 +13,7 @@ use Rattle.worker_requester.specs.Asking.{Asking}
 use Rattle.worker_server.specs.Serving.{Serving}
 use Rattle.worker_pair.specs.Plans.{Planned, IsMade}
 use Rattle.worker_pair.specs.Workers.{end_at, IsLive}
-use Rattle.worker_pair.specs.declared.device_seat.DeviceSeat.{DeviceSeat}
+use Rattle.device_any.specs.declared.device_seat.DeviceSeat.{DeviceSeat}
 use Rattle.worker_pair.specs.declared.worker.Worker.{Worker}
 use Rattle.worker_pair.specs.declared.worker.Worker.TheVariants.{Asks, Serves}
 
@@ -30,9 +30,10 @@ AreRoles (Asks a) (Serves s) = PlansAgree a s
 AreRoles (Serves s) (Asks a) = PlansAgree a s
 AreRoles (Serves s) (Serves t) = ⊥
 
--- the guest's worker and the host's worker of one channel: they have its two ends, neither has ended, and their plans agree
+-- the guest's worker and the host's worker of one channel: they have its two ends, the channel has no data pages, neither has ended, and their plans agree
 pub record ArePair (guest host : Worker) : Type 0 where
   pub ends : AreOfOneChannel (end_at guest) (end_at host)
+  pub bare : ((end_at guest).state.pages.count ≡ 0) × ((end_at host).state.pages.count ≡ 0)
   pub guest_live : IsLive guest
   pub host_live : IsLive host
   pub roles : AreRoles guest host

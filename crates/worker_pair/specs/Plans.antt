@@ -22,8 +22,8 @@ use Rattle.channel_model.specs.Roles.{side_that_asks}
 use Rattle.worker_requester.specs.Asking.{Asking}
 use Rattle.worker_server.specs.Serving.{Serving}
 use Rattle.worker_pair.specs.declared.channel_plan.ChannelPlan.{ChannelPlan}
-use Rattle.worker_pair.specs.Seats.{served_at, kind_at, left_at}
-use Rattle.worker_pair.specs.declared.device_seat.DeviceSeat.{DeviceSeat}
+use Rattle.device_any.specs.Seats.{served_at, kind_at, left_at}
+use Rattle.device_any.specs.declared.device_seat.DeviceSeat.{DeviceSeat}
 use Rattle.worker_pair.specs.declared.guest_plan.GuestPlan.{GuestPlan}
 use Rattle.worker_pair.specs.declared.host_plan.HostPlan.{HostPlan}
 use Rattle.worker_pair.specs.declared.worker.Worker.{Worker}

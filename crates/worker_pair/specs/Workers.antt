@@ -13,8 +13,9 @@ use Rattle.worker_server.specs.Causes.{ServeCause}
 use Rattle.worker_server.specs.Serving.{Turns, ServeEnds, ServesOn, TurnTried as ServeTried}
 use Rattle.worker_port.specs.Line.{Line}
 use Rattle.worker_port.specs.declared.ended.Turn.{Turn}
-use Rattle.worker_pair.specs.Seats.{device_place, left_at, IsAt}
-use Rattle.worker_pair.specs.declared.device_seat.DeviceSeat.{DeviceSeat}
+use Rattle.device_any.specs.Seats.{device_place, left_at}
+use Rattle.worker_pair.specs.Seats.{IsAt}
+use Rattle.device_any.specs.declared.device_seat.DeviceSeat.{DeviceSeat}
 use Rattle.worker_pair.specs.declared.worker.Worker.{Worker}
 use Rattle.worker_pair.specs.declared.worker.Worker.TheVariants.{Asks, Serves}
 

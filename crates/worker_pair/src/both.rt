@@ -5,14 +5,15 @@ ghost use Rattle.ring_seat.specs.Settling.{AreOfOneChannel};
 ghost use Rattle.channel_model.specs.Roles.{side_that_asks};
 ghost use Rattle.worker_pair.specs.Pairs.{AreMadeAt, ArePair, IsNewEnd};
 ghost use Rattle.worker_pair.specs.Plans.{AsksFor, CanPlan, ServesFor, planned};
-ghost use Rattle.worker_pair.specs.Seats.{kind_at, left_at};
+ghost use Rattle.device_any.specs.Seats.{kind_at, left_at};
 ghost use Rattle.worker_pair.specs.Workers.{IsOfSide, end_at};
 
 use crate::making::{make_asker, make_server};
 use crate::worker::{ChannelRequester, ChannelServer};
-use crate::{ChannelPlan, DeviceSeat, GuestWorker, HostWorker, Worker};
+use crate::{ChannelPlan, GuestWorker, HostWorker, Worker};
 use bus_script::Ask;
 use channel_model::side_that_asks;
+use device_any::DeviceSeat;
 use io_edge::Side;
 use ring_core::End;
 use ring_seat::{GuestEnd, HostEnd, TableSeat};

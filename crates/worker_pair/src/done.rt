@@ -1,6 +1,7 @@
 //! What the workers of a channel leave.
-use crate::{DeviceSeat, GuestSeat, HostSeat};
+use crate::{GuestSeat, HostSeat};
 use bus_script::Reply;
+use device_any::DeviceSeat;
 use ring_core::End;
 use ring_seat::TableSeat;
 use worker_port::Ended;

@@ -3,7 +3,7 @@ ghost use Rattle.std.specs.Prelude.{◌≡◌};
 ghost use Rattle.worker_pair.specs.Seats.{at_guest, IsAt};
 ghost use Rattle.io_edge.specs.declared.side.Side.TheVariants.{Guest as GuestSide};
 
-use crate::DeviceSeat;
+use device_any::DeviceSeat;
 use hist_lock::HistSeat;
 use util_ic::{BeatMachine, DownMachine};
 

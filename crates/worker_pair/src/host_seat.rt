@@ -3,7 +3,7 @@ ghost use Rattle.std.specs.Prelude.{◌≡◌};
 ghost use Rattle.worker_pair.specs.Seats.{at_host, IsAt};
 ghost use Rattle.io_edge.specs.declared.side.Side.TheVariants.{Host as HostSide};
 
-use crate::DeviceSeat;
+use device_any::DeviceSeat;
 use hist_lock::HistSeat;
 use net_dev::Station;
 use scsi_disk::Disk;

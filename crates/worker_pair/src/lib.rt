@@ -3,7 +3,6 @@
 
 mod both;
 mod channel_plan;
-mod device_seat;
 mod done;
 mod guest_plan;
 mod guest_seat;
@@ -17,7 +16,6 @@ mod worker;
 
 pub use both::make_both;
 pub use channel_plan::ChannelPlan;
-pub use device_seat::DeviceSeat;
 pub use done::{Done, GuestDone, HostDone, WorkerDone};
 pub use guest_plan::GuestPlan;
 pub use guest_seat::GuestSeat;

@@ -6,7 +6,7 @@ ghost use Rattle.ring_seat.specs.declared.table_seat.TableSeat.{TableSeat};
 ghost use Rattle.worker_server.specs.Serving.{ServesOn};
 ghost use Rattle.worker_pair.specs.Leaving.{Leaves, LeavesAsked, LeavesServed, StandsAsking, StandsServing, of_guest, of_host};
 ghost use Rattle.worker_pair.specs.Pairs.{ArePair};
-ghost use Rattle.worker_pair.specs.Seats.{device_place};
+ghost use Rattle.device_any.specs.Seats.{device_place};
 
 use crate::guest_worker::guest_done;
 use crate::host_worker::host_done;

@@ -4,7 +4,8 @@ ghost use Rattle.std.specs.Prelude.{◌≡◌, false, [], None, Some};
 ghost use Rattle.worker_pair.specs.Leaving.{Leaves};
 ghost use Rattle.worker_pair.specs.Workers.{Caused, GoesOn, IsLive, Tried, Turned};
 
-use crate::{DeviceSeat, WorkerDone};
+use crate::WorkerDone;
+use device_any::DeviceSeat;
 use device_protocols::DeviceProtocol;
 use io_edge::Gate;
 use ring_seat::TableSeat;

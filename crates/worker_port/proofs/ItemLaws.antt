@@ -1,13 +1,15 @@
 -- What an end did, in items as they are read.
-use Rattle.std.proofs.Common.{◌≡◌, ℕ, zero, suc, ◌<◌, ◌≤◌, Bool, true, false, cond, take, List, [], ◌∷◌, ◌++◌, length, get_or, refl, sym, ap, ◌∙◌, arith, length-append, Option, Some}
+use Rattle.std.proofs.Common.{◌≡◌, ℕ, zero, suc, ◌<◌, ◌≤◌, ◌==◌, ◌⊎◌, inl, inr, Bool, true, false, cond, take, List, [], ◌∷◌, ◌++◌, length, get_or, refl, sym, ap, ◌∙◌, subst, arith, length-append, Option, Some}
 use Rattle.std.specs.Prelude.{map, slice_get, Result}
 use Rattle.channel_trace.specs.declared.event.Event.{Event}
 use Rattle.channel_trace.specs.declared.event.Event.TheVariants.{Sent, Got, Empty, Marked, Saw}
-use Rattle.channel_trace.specs.Filled.{thing_at, filled}
+use Rattle.channel_trace.specs.Filled.{IsFilledBy, thing_at, filled}
 use Rattle.channel_trace.specs.Runs.{sent_of, got_of, has_marked}
 use Rattle.channel_trace.proofs.Filling.{all_got, marked_filled}
 use Rattle.page_kept.specs.declared.item.Item.{Item}
-use Rattle.page_kept.specs.Items.{item_of}
+use Rattle.page_kept.specs.Items.{item_of, packets}
+use Rattle.page_kept.specs.Kept.{pages_sent}
+use Rattle.page_kept.specs.Layouts.{layout}
 use Rattle.ring_machine.specs.declared.last.Armed.{Armed}
 use Rattle.ring_machine.specs.declared.last.Armed.TheVariants.{Asleep, Work}
 use Rattle.ring_machine.specs.declared.last.SendRefusal.{SendRefusal}
@@ -24,8 +26,11 @@ use Rattle.ring_core.specs.Seen.{Seen}
 use Rattle.ring_core.specs.declared.told.Told.{Told}
 use Rattle.worker_port.specs.declared.found.Found.{Found}
 use Rattle.worker_port.specs.declared.found.Found.TheVariants.{Packet as FoundPacket, Nothing as FoundNothing, Broken as FoundBroken}
-use Rattle.channel_protocol.specs.Paged.{Lays}
-use Rattle.worker_port.specs.Line.{IsLine, Line, got_as, item_sent, look_of, looked, past_as, past_tried, tried_of, whole}
+use Rattle.ring_core.specs.Laying.{laid}
+use Rattle.ring_core.specs.Pages.{last_words}
+use Rattle.ring_core.proofs.Paging.{first_of}
+use Rattle.worker_port.specs.Line.{IsLine, Line, got_as, item_sent, look_of, looked, past_as, past_tried, tried_of, whole, words_at, words_sent}
+use Rattle.worker_port.proofs.PageLaws.{by_count, is_zero}
 
 -- the things before one that comes behind, and that one
 front_thing : {Q : Type 0} (things : List Q) (x : Q) (n : ℕ) (d : Q) → n < length things → get_or (things ++ x ∷ []) n d ≡ get_or things n d
@@ -72,42 +77,96 @@ abbrev pub found_past : {P : Type 0} → Found → List (Event P) → List (Even
 found_past FoundNothing past = Empty ∷ past
 found_past _ past = past
 
+-- the items of packets: none, or one for each
+abbrev pub Along : List (List ℕ) → List Item → Type 0
+Along ps [] = Unit {0}
+Along [] (i ∷ is) = ⊥
+Along (p ∷ ps) (i ∷ is) = (i.packet ≡ p) × Along ps is
+
+pub along_by : (ps : List (List ℕ)) (is : List Item) → packets is ≡ ps → Along ps is
+along_by [] [] e = tt
+along_by (p ∷ ps) [] e = tt
+along_by [] (i ∷ is) e = absurd (cc)
+along_by (p ∷ ps) (i ∷ is) e = let here : i.packet ≡ p = cc in let rest : packets is ≡ ps = cc in (here, along_by ps is rest)
+
+pub packets_along : (ps : List (List ℕ)) (is : List Item) → Along ps is → packets (whole ps is) ≡ ps
+packets_along [] [] e = refl
+packets_along (p ∷ ps) [] e = ap (λ (l : List (List ℕ)). p ∷ l) (packets_along ps [] tt)
+packets_along [] (i ∷ is) e = absurd e
+packets_along (p ∷ ps) (i ∷ is) e = (λ j. e.0 j ∷ packets_along ps is e.1 j)
+
+pub whole_none : (ps : List (List ℕ)) → whole ps [] ≡ map (λ (p : List ℕ). item_of p []) ps
+whole_none [] = refl
+whole_none (p ∷ ps) = ap (λ (l : List Item). item_of p [] ∷ l) (whole_none ps)
+
+whole_items : (is : List Item) → whole (packets is) is ≡ is
+whole_items [] = refl
+whole_items (i ∷ is) = ap (λ (l : List Item). i ∷ l) (whole_items is)
+
+packets_more : (is : List Item) (p ws : List ℕ) → packets (is ++ item_of p ws ∷ []) ≡ packets is ++ p ∷ []
+packets_more [] p ws = refl
+packets_more (i ∷ is) p ws = ap (λ (l : List (List ℕ)). i.packet ∷ l) (packets_more is p ws)
+
+-- a packet with these page words stands last, in a list of packets and in that of the items: there are none, or one for each
+pub record Grows (ps ps' : List (List ℕ)) (is is' : List Item) (p ws : List ℕ) : Type 0 where
+  pub list : ps' ≡ ps ++ p ∷ []
+  pub items : ((is ≡ []) × (is' ≡ []) × (ws ≡ [])) ⊎ ((packets is ≡ ps) × (is' ≡ is ++ item_of p ws ∷ []))
+
 module _ (f : Item → Item) where
-  -- packets without page words
-  abbrev bare : List (List ℕ) → List Item
-  bare ps = map f (whole ps [])
+  pub whole_long : (ps : List (List ℕ)) (is : List Item) → length (map f (whole ps is)) ≡ length ps
+  whole_long [] is = refl
+  whole_long (q ∷ ps) [] = ap suc (whole_long ps [])
+  whole_long (q ∷ ps) (i ∷ is) = ap suc (whole_long ps is)
 
-  bare_more : (ps : List (List ℕ)) (p : List ℕ) → map f (whole (ps ++ p ∷ []) []) ≡ map f (whole ps []) ++ f (item_of p []) ∷ []
-  bare_more [] p = refl
-  bare_more (q ∷ ps) p = ap (λ (l : List Item). f (item_of q []) ∷ l) (bare_more ps p)
+  none_more : (ps : List (List ℕ)) (p : List ℕ) → map f (whole (ps ++ p ∷ []) []) ≡ map f (whole ps []) ++ f (item_of p []) ∷ []
+  none_more [] p = refl
+  none_more (q ∷ ps) p = ap (λ (l : List Item). f (item_of q []) ∷ l) (none_more ps p)
 
-  pub bare_long : (ps : List (List ℕ)) → length (map f (whole ps [])) ≡ length ps
-  bare_long [] = refl
-  bare_long (q ∷ ps) = ap suc (bare_long ps)
+  map_more : (is : List Item) (i : Item) → map f (is ++ i ∷ []) ≡ map f is ++ f i ∷ []
+  map_more [] i = refl
+  map_more (j ∷ is) i = ap (λ (l : List Item). f j ∷ l) (map_more is i)
 
-  bare_at : (ps : List (List ℕ)) (i : ℕ) (p : List ℕ) → slice_get ps i ≡ Some p → slice_get (map f (whole ps [])) i ≡ Some (f (item_of p []))
-  bare_at [] i p e = absurd (cc)
-  bare_at (q ∷ ps) zero p e = let same : q ≡ p = cc in ap (λ (r : List ℕ). Some (f (item_of r []))) same
-  bare_at (q ∷ ps) (suc i) p e = bare_at ps i p e
+  pub whole_more : (ps ps' : List (List ℕ)) (is is' : List Item) (p ws : List ℕ) → Grows ps ps' is is' p ws → map f (whole ps' is') ≡ map f (whole ps is) ++ f (item_of p ws) ∷ []
+  whole_more ps ps' is is' p ws g = by g.items
+    where
+      by : ((is ≡ []) × (is' ≡ []) × (ws ≡ [])) ⊎ ((packets is ≡ ps) × (is' ≡ is ++ item_of p ws ∷ [])) → map f (whole ps' is') ≡ map f (whole ps is) ++ f (item_of p ws) ∷ []
+      by (inl none) =
+          (λ j. map f (whole (g.list j) (none.1 j)))
+          ∙ (none_more ps p ∙ (λ j. map f (whole ps (sym none.0 j)) ++ f (item_of p (sym none.2 j)) ∷ []))
+      by (inr more) =
+          let new : packets (is ++ item_of p ws ∷ []) ≡ ps' = packets_more is p ws ∙ (ap (λ (l : List (List ℕ)). l ++ p ∷ []) more.0 ∙ sym g.list) in
+          (λ j. map f (whole (sym new j) (more.1 j)))
+          ∙ (ap (map f) (whole_items (is ++ item_of p ws ∷ []))
+          ∙ (map_more is (item_of p ws) ∙ ap (λ (l : List Item). map f l ++ f (item_of p ws) ∷ []) (sym (whole_items is) ∙ ap (λ (l : List (List ℕ)). whole l is) more.0)))
 
-  -- an end of a channel without data pages
-  pub past_bare : (e : EndState) → (e.pages.sent ≡ []) × (e.pages.got ≡ []) → past_as f e ≡ filled (λ p. f (item_of p [])) (map f (whole e.sent [])) (map f (whole e.got [])) e.past
-  unfolding past_as
-  past_bare e none = (λ i. filled (λ p. f (item_of p [])) (map f (whole e.sent (none.0 i))) (map f (whole e.got (none.1 i))) e.past)
+  pub whole_at : (ps : List (List ℕ)) (is : List Item) (i : ℕ) (p : List ℕ) → Along ps is → slice_get ps i ≡ Some p → slice_get (map f (whole ps is)) i ≡ Some (f (item_of p (words_at is i)))
+  unfolding words_at
+  whole_at [] is i p a e = absurd (cc)
+  whole_at (q ∷ ps) [] zero p a e = let same : q ≡ p = cc in ap (λ (r : List ℕ). Some (f (item_of r []))) same
+  whole_at (q ∷ ps) [] (suc i) p a e = whole_at ps [] i p tt e
+  whole_at (q ∷ ps) (j ∷ is) zero p a e = let same : j.packet ≡ p = a.0 ∙ (let z : q ≡ p = cc in z) in ap (λ (r : List ℕ). Some (f (item_of r j.words))) same
+  whole_at (q ∷ ps) (j ∷ is) (suc i) p a e = whole_at ps is i p a.1 e
 
-  pub got_bare : (e : EndState) → e.pages.got ≡ [] → got_as f e ≡ map f (whole e.got [])
+  pub line_at : (e : EndState) (i : ℕ) (p : List ℕ) → Along e.got e.pages.got → slice_get e.got i ≡ Some p → slice_get (got_as f e) i ≡ Some (f (item_of p (words_at e.pages.got i)))
   unfolding got_as
-  got_bare e none = ap (λ (is : List Item). map f (whole e.got is)) none
+  line_at e i p a at = whole_at e.got e.pages.got i p a at
+
+  pub line_long : (e : EndState) → length (got_as f e) ≡ length e.got
+  unfolding got_as
+  line_long e = whole_long e.got e.pages.got
+
+  -- what a call leaves that sent and got nothing, maybe behind page words that it stored
+  pub past_kept : (old new : EndState) → new.past ≡ old.past → new.sent ≡ old.sent → new.got ≡ old.got → new.pages.sent ≡ old.pages.sent → new.pages.got ≡ old.pages.got → past_as f new ≡ past_as f old
+  unfolding past_as
+  past_kept old new past sent got s g = (λ i. filled (λ p. f (item_of p [])) (map f (whole (sent i) (s i))) (map f (whole (got i) (g i))) (past i))
+
+  pub got_kept : (old new : EndState) → new.got ≡ old.got → new.pages.got ≡ old.pages.got → got_as f new ≡ got_as f old
+  unfolding got_as
+  got_kept old new got g = (λ i. map f (whole (got i) (g i)))
 
   pub line_marked : (e : EndState) → has_marked (past_as f e) ≡ has_marked e.past
   unfolding past_as
   line_marked e = marked_filled (λ p. f (item_of p [])) e.past (map f (whole e.sent e.pages.sent)) (map f (whole e.got e.pages.got))
-
-  pub line_at : (e : EndState) (i : ℕ) (p : List ℕ) → e.pages.got ≡ [] → slice_get e.got i ≡ Some p → slice_get (got_as f e) i ≡ Some (f (item_of p []))
-  line_at e i p none at = ap (λ (l : List Item). slice_get l i) (got_bare e none) ∙ bare_at e.got i p at
-
-  pub line_long : (e : EndState) → e.pages.got ≡ [] → length (got_as f e) ≡ length e.got
-  line_long e none = ap length (got_bare e none) ∙ bare_long e.got
 
   -- what a call that sent and got nothing leaves
   pub past_same : (old new : EndState) → new.past ≡ old.past → new.sent ≡ old.sent → new.got ≡ old.got → new.pages ≡ old.pages → past_as f new ≡ past_as f old
@@ -165,60 +224,67 @@ module _ (f : Item → Item) where
   past_finds FoundNothing old new not past sent got pages = past_empty old new past sent got pages
   past_finds FoundBroken old new not past sent got pages = past_same old new past sent got pages
 
+-- a packet with these page words was sent, or none was
+abbrev pub SentAs : {S : Type 0} → Seen S → Seen S → List ℕ → List ℕ → Bool → Type 0
+SentAs old new p ws true = Grows old.state.sent new.state.sent old.state.pages.sent new.state.pages.sent p ws
+SentAs old new p ws false = (new.state.sent ≡ old.state.sent) × (new.state.pages.sent ≡ old.state.pages.sent)
+
+pub items_along : {S : Type 0} (told : S → Option Told) (e : Seen S) → IsLine told e → Along e.state.sent e.state.pages.sent × Along e.state.got e.state.pages.got
+items_along told e h =
+    by_count e.state.pages.count
+    (λ z. let none = h.pages.none z in (subst (Along e.state.sent) (sym none.0) tt, subst (Along e.state.got) (sym none.1) tt))
+    (λ some. let items = h.pages.items some in (along_by e.state.sent e.state.pages.sent items.0, along_by e.state.got e.state.pages.got items.1))
+
+pub got_more : {S : Type 0} (f : Item → Item) (old new : Seen S) (p ws : List ℕ) → Grows old.state.got new.state.got old.state.pages.got new.state.pages.got p ws → got_as f new.state ≡ got_as f old.state ++ f (item_of p ws) ∷ []
+unfolding got_as
+got_more f old new p ws got = whole_more f old.state.got new.state.got old.state.pages.got new.state.pages.got p ws got
+
 module _ {S : Type 0} {told : S → Option Told} (f : Item → Item) where
+  pub line_filled : (e : Seen S) → IsLine told e → IsFilledBy e.state.past (map f (whole e.state.sent e.state.pages.sent)) (map f (whole e.state.got e.state.pages.got))
+  line_filled e h =
+      record { sent_are = ap length h.sent ∙ sym (whole_long f e.state.sent e.state.pages.sent); got_are = ap length h.got ∙ sym (whole_long f e.state.got e.state.pages.got) }
+
   pub line_got : (e : Seen S) → IsLine told e → got_of (past_as f e.state) ≡ got_as f e.state
-  line_got e h =
-      ap got_of (past_bare f e.state h.none)
-      ∙ (all_got (λ p. f (item_of p [])) e.state.past (map f (whole e.state.sent [])) (map f (whole e.state.got []))
-      (record { sent_are = ap length h.sent ∙ sym (bare_long f e.state.sent); got_are = ap length h.got ∙ sym (bare_long f e.state.got) })
-      ∙ sym (got_bare f e.state h.none.1))
+  unfolding past_as got_as
+  line_got e h = all_got (λ p. f (item_of p [])) e.state.past (map f (whole e.state.sent e.state.pages.sent)) (map f (whole e.state.got e.state.pages.got)) (line_filled e h)
 
   -- one packet more, that was sent or got
-  pub past_sent : (old new : Seen S) (p : List ℕ) → IsLine told old → new.state.past ≡ Sent p ∷ old.state.past → new.state.sent ≡ old.state.sent ++ p ∷ [] → new.state.got ≡ old.state.got → new.state.pages ≡ old.state.pages
-      → past_as f new.state ≡ Sent (f (item_of p [])) ∷ past_as f old.state
-  past_sent old new p h past sent got pages =
-      past_bare f new.state (ap (λ k. k.sent) pages ∙ h.none.0, ap (λ k. k.got) pages ∙ h.none.1)
-      ∙ ((λ i. filled (λ q. f (item_of q [])) ((ap (λ (l : List (List ℕ)). map f (whole l [])) sent ∙ bare_more f old.state.sent p) i) (map f (whole (got i) [])) (past i))
-      ∙ (sent_next (λ q. f (item_of q [])) (map f (whole old.state.sent [])) (map f (whole old.state.got [])) (f (item_of p [])) p old.state.past (ap length h.sent ∙ sym (bare_long f old.state.sent))
-      ∙ ap (λ (l : List (Event Item)). Sent (f (item_of p [])) ∷ l) (sym (past_bare f old.state h.none))))
+  pub past_sent : (old new : Seen S) (p ws : List ℕ) → IsLine told old → new.state.past ≡ Sent p ∷ old.state.past → Grows old.state.sent new.state.sent old.state.pages.sent new.state.pages.sent p ws → new.state.got ≡ old.state.got
+      → new.state.pages.got ≡ old.state.pages.got → past_as f new.state ≡ Sent (f (item_of p ws)) ∷ past_as f old.state
+  unfolding past_as
+  past_sent old new p ws h past sent got pages =
+      (λ i. filled (λ q. f (item_of q [])) (whole_more f old.state.sent new.state.sent old.state.pages.sent new.state.pages.sent p ws sent i) (map f (whole (got i) (pages i))) (past i))
+      ∙ sent_next (λ q. f (item_of q [])) (map f (whole old.state.sent old.state.pages.sent)) (map f (whole old.state.got old.state.pages.got)) (f (item_of p ws)) p old.state.past (line_filled old h).sent_are
 
-  pub past_got : (old new : Seen S) (p : List ℕ) → IsLine told old → new.state.past ≡ Got p ∷ old.state.past → new.state.sent ≡ old.state.sent → new.state.got ≡ old.state.got ++ p ∷ [] → new.state.pages ≡ old.state.pages
-      → past_as f new.state ≡ Got (f (item_of p [])) ∷ past_as f old.state
-  past_got old new p h past sent got pages =
-      past_bare f new.state (ap (λ k. k.sent) pages ∙ h.none.0, ap (λ k. k.got) pages ∙ h.none.1)
-      ∙ ((λ i. filled (λ q. f (item_of q [])) (map f (whole (sent i) [])) ((ap (λ (l : List (List ℕ)). map f (whole l [])) got ∙ bare_more f old.state.got p) i) (past i))
-      ∙ (got_next (λ q. f (item_of q [])) (map f (whole old.state.sent [])) (map f (whole old.state.got [])) (f (item_of p [])) p old.state.past (ap length h.got ∙ sym (bare_long f old.state.got))
-      ∙ ap (λ (l : List (Event Item)). Got (f (item_of p [])) ∷ l) (sym (past_bare f old.state h.none))))
-
-  pub got_more : (old new : Seen S) (p : List ℕ) → IsLine told old → new.state.got ≡ old.state.got ++ p ∷ [] → new.state.pages ≡ old.state.pages → got_as f new.state ≡ got_as f old.state ++ f (item_of p []) ∷ []
-  got_more old new p h got pages =
-      got_bare f new.state (ap (λ k. k.got) pages ∙ h.none.1)
-      ∙ (ap (λ (l : List (List ℕ)). map f (whole l [])) got ∙ (bare_more f old.state.got p ∙ ap (λ (l : List Item). l ++ f (item_of p []) ∷ []) (sym (got_bare f old.state h.none.1))))
+  pub past_got : (old new : Seen S) (p ws : List ℕ) → IsLine told old → new.state.past ≡ Got p ∷ old.state.past → Grows old.state.got new.state.got old.state.pages.got new.state.pages.got p ws → new.state.sent ≡ old.state.sent
+      → new.state.pages.sent ≡ old.state.pages.sent → past_as f new.state ≡ Got (f (item_of p ws)) ∷ past_as f old.state
+  unfolding past_as
+  past_got old new p ws h past got sent pages =
+      (λ i. filled (λ q. f (item_of q [])) (map f (whole (sent i) (pages i))) (whole_more f old.state.got new.state.got old.state.pages.got new.state.pages.got p ws got i) (past i))
+      ∙ got_next (λ q. f (item_of q [])) (map f (whole old.state.sent old.state.pages.sent)) (map f (whole old.state.got old.state.pages.got)) (f (item_of p ws)) p old.state.past (line_filled old h).got_are
 
   -- a send, by its answer
-  send_by : (old new : Seen S) (p : List ℕ) (how : Ending) (m : EndMachine) (r : Result Signalled SendRefusal) (saw : Bool) → IsLine told old → call_by how ≡ Send → r ≡ send_answer how m
-      → new.state.past ≡ past_of how saw p old.state.past → new.state.sent ≡ cond (is_sent how) (old.state.sent ++ p ∷ []) old.state.sent → new.state.got ≡ old.state.got → new.state.pages ≡ old.state.pages
-      → past_as f new.state ≡ past_tried (tried_of r) (f (item_of p [])) (past_as f old.state)
-  send_by old new p SentQuiet m r saw h call is past sent got pages =
-      past_sent old new p h past sent got pages ∙ sym (ap (λ (x : Result Signalled SendRefusal). past_tried (tried_of x) (f (item_of p [])) (past_as f old.state)) is)
-  send_by old new p SentRaised m r saw h call is past sent got pages =
-      past_sent old new p h past sent got pages ∙ sym (ap (λ (x : Result Signalled SendRefusal). past_tried (tried_of x) (f (item_of p [])) (past_as f old.state)) is)
-  send_by old new p Full m r saw h call is past sent got pages =
-      past_same f old.state new.state past sent got pages ∙ sym (ap (λ (x : Result Signalled SendRefusal). past_tried (tried_of x) (f (item_of p [])) (past_as f old.state)) is)
-  send_by old new p BadPeer m r saw h call is past sent got pages =
-      past_same f old.state new.state past sent got pages ∙ sym (ap (λ (x : Result Signalled SendRefusal). past_tried (tried_of x) (f (item_of p [])) (past_as f old.state)) is)
-  send_by old new p _ m r saw h call is past sent got pages = absurd (cc)
+  module _ (old new : Seen S) (p ws : List ℕ) (h : IsLine told old) (got : new.state.got ≡ old.state.got) (items : new.state.pages.got ≡ old.state.pages.got) where
+    send_by : (how : Ending) (m : EndMachine) (r : Result Signalled SendRefusal) (saw : Bool) → call_by how ≡ Send → r ≡ send_answer how m → new.state.past ≡ past_of how saw p old.state.past → SentAs old new p ws (is_sent how)
+        → past_as f new.state ≡ past_tried (tried_of r) (f (item_of p ws)) (past_as f old.state)
+    send_by SentQuiet m r saw call is past sent = past_sent old new p ws h past sent got items ∙ sym (ap (λ (x : Result Signalled SendRefusal). past_tried (tried_of x) (f (item_of p ws)) (past_as f old.state)) is)
+    send_by SentRaised m r saw call is past sent = past_sent old new p ws h past sent got items ∙ sym (ap (λ (x : Result Signalled SendRefusal). past_tried (tried_of x) (f (item_of p ws)) (past_as f old.state)) is)
+    send_by Full m r saw call is past sent =
+        past_kept f old.state new.state past sent.0 got sent.1 items ∙ sym (ap (λ (x : Result Signalled SendRefusal). past_tried (tried_of x) (f (item_of p ws)) (past_as f old.state)) is)
+    send_by BadPeer m r saw call is past sent =
+        past_kept f old.state new.state past sent.0 got sent.1 items ∙ sym (ap (λ (x : Result Signalled SendRefusal). past_tried (tried_of x) (f (item_of p ws)) (past_as f old.state)) is)
+    send_by _ m r saw call is past sent = absurd (cc)
 
-  pub send_past : (old new : Seen S) (p : List ℕ) (r : Result Signalled SendRefusal) → IsLine told old → call_by new.state.machine.ended ≡ Send → r ≡ send_answer new.state.machine.ended new.state.machine
-      → new.state.past ≡ past_of new.state.machine.ended new.state.machine.saw p old.state.past → new.state.sent ≡ sent_by new.state.machine old.state.sent p → new.state.got ≡ old.state.got → new.state.pages ≡ old.state.pages
-      → past_as f new.state ≡ past_tried (tried_of r) (f (item_of p [])) (past_as f old.state)
-  send_past old new p r h call is past sent got pages = send_by old new p new.state.machine.ended new.state.machine r new.state.machine.saw h call is past sent got pages
+    pub send_past : (r : Result Signalled SendRefusal) → call_by new.state.machine.ended ≡ Send → r ≡ send_answer new.state.machine.ended new.state.machine → new.state.past ≡ past_of new.state.machine.ended new.state.machine.saw p old.state.past
+        → SentAs old new p ws (is_sent new.state.machine.ended) → past_as f new.state ≡ past_tried (tried_of r) (f (item_of p ws)) (past_as f old.state)
+    send_past r call is past sent = send_by new.state.machine.ended new.state.machine r new.state.machine.saw call is past sent
 
--- what a send of a channel without data pages keeps
-pub item_sent_is : {S : Type 0} (e : Line S) (p words : List ℕ) → item_sent e p words ≡ item_of p []
+-- what a send keeps
+pub item_sent_is : {S : Type 0} (e : Line S) (p words : List ℕ) → item_sent e p words ≡ item_of p (words_sent e.end.state.pages p words)
 unfolding item_sent
 item_sent_is e p words = refl
 
-pub lays_none : {S : Type 0} (e : Line S) (p words : List ℕ) → words ≡ [] → Lays p words 0 (item_sent e p words)
-unfolding item_sent
-lays_none e p words none = record { packet_is = refl; words_are = ap (λ (l : List ℕ). take (length l) []) none ∙ sym none; long = refl }
+pub item_bare : {S : Type 0} (e : Line S) (p words : List ℕ) → e.end.state.pages.count ≡ 0 → item_sent e p words ≡ item_of p []
+item_bare e p words z =
+    item_sent_is e p words
+    ∙ ap (item_of p) (first_of (e.end.state.pages.count == 0) [] (last_words (pages_sent (layout e.end.state.pages.count) (laid e.end.state.pages p words) p).sent) (is_zero e.end.state.pages.count z))

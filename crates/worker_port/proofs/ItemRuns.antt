@@ -1,47 +1,63 @@
 -- The run of two ends, in items as they are read.
 use Rattle.std.proofs.Common.{◌≡◌, ℕ, List, [], ◌∷◌, ◌++◌, length, map, refl, sym, ap, ◌∙◌, subst, Option}
 use Rattle.page_kept.specs.declared.item.Item.{Item}
-use Rattle.page_kept.specs.Items.{item_of}
-use Rattle.channel_trace.specs.Filled.{IsFilledBy, filled}
+use Rattle.page_kept.specs.Items.{item_of, packets}
+use Rattle.channel_trace.specs.Filled.{filled}
 use Rattle.channel_trace.specs.Laws.{AreOfOneRun}
 use Rattle.channel_trace.specs.Runs.{IsFront, sent_of, got_of, guest_of}
 use Rattle.channel_trace.proofs.Filling.{all_sent, all_got, runs_filled}
 use Rattle.channel_model.proofs.Runs.{guest_front, host_front}
 use Rattle.ring_core.specs.Seen.{Seen}
 use Rattle.ring_core.specs.declared.told.Told.{Told}
-use Rattle.worker_port.specs.Line.{IsLine, past_as, whole}
-use Rattle.worker_port.proofs.ItemLaws.{bare_long, past_bare}
+use Rattle.worker_port.specs.Line.{GotItems, IsLine, past_as, whole}
+use Rattle.worker_port.proofs.ItemLaws.{items_along, line_filled, packets_along, whole_none}
 
 module _ (f : Item → Item) where
-  bare_append : (xs ys : List (List ℕ)) → map f (whole (xs ++ ys) []) ≡ map f (whole xs []) ++ map f (whole ys [])
-  bare_append [] ys = refl
-  bare_append (x ∷ xs) ys = ap (λ (l : List Item). f (item_of x []) ∷ l) (bare_append xs ys)
+  map_append : (xs ys : List Item) → map f (xs ++ ys) ≡ map f xs ++ map f ys
+  map_append [] ys = refl
+  map_append (x ∷ xs) ys = ap (λ (l : List Item). f x ∷ l) (map_append xs ys)
 
-  bare_front : (xs ys : List (List ℕ)) → IsFront xs ys → IsFront (map f (whole xs [])) (map f (whole ys []))
-  bare_front xs ys front = (map f (whole front.0 []), ap (λ (l : List (List ℕ)). map f (whole l [])) front.1 ∙ bare_append xs front.0)
+  map_front : (xs ys : List Item) → IsFront xs ys → IsFront (map f xs) (map f ys)
+  map_front xs ys front = (map f front.0, ap (map f) front.1 ∙ map_append xs front.0)
 
-  bare_map : (ps : List (List ℕ)) → map f (whole ps []) ≡ map (λ (p : List ℕ). f (item_of p [])) ps
-  bare_map [] = refl
-  bare_map (p ∷ ps) = ap (λ (l : List Item). f (item_of p []) ∷ l) (bare_map ps)
+none_append : (xs ys : List (List ℕ)) → whole (xs ++ ys) [] ≡ whole xs [] ++ whole ys []
+none_append [] ys = refl
+none_append (x ∷ xs) ys = ap (λ (l : List Item). item_of x [] ∷ l) (none_append xs ys)
 
 module _ {S : Type 0} {told : S → Option Told} (f : Item → Item) where
-  filled_by : (e : Seen S) → IsLine told e → IsFilledBy e.state.past (map f (whole e.state.sent [])) (map f (whole e.state.got []))
-  filled_by e h = record { sent_are = ap length h.sent ∙ sym (bare_long f e.state.sent); got_are = ap length h.got ∙ sym (bare_long f e.state.got) }
+  pub items_run : (guest host : Seen S) → IsLine told guest → IsLine told host → AreOfOneRun guest.state.past host.state.past → GotItems guest.state host.state → GotItems host.state guest.state → AreOfOneRun (past_as f guest.state) (past_as f host.state)
+  unfolding past_as
+  items_run guest host g h one to_guest to_host =
+      runs_filled (λ p. f (item_of p [])) guest.state.past host.state.past (map f (whole guest.state.sent guest.state.pages.sent)) (map f (whole guest.state.got guest.state.pages.got)) (map f (whole host.state.sent host.state.pages.sent))
+      (map f (whole host.state.got host.state.pages.got)) one (line_filled f guest g) (line_filled f host h)
+      (map_front f (whole guest.state.got guest.state.pages.got) (whole host.state.sent host.state.pages.sent) to_guest) (map_front f (whole host.state.got host.state.pages.got) (whole guest.state.sent guest.state.pages.sent) to_host)
 
-  fronts : (mine other : Seen S) → IsLine told mine → IsLine told other → IsFront (got_of mine.state.past) (sent_of other.state.past) → IsFront (map f (whole mine.state.got [])) (map f (whole other.state.sent []))
-  fronts mine other h k front = bare_front f mine.state.got other.state.sent (subst (λ (l : List (List ℕ)). IsFront l other.state.sent) h.got (subst (λ (l : List (List ℕ)). IsFront (got_of mine.state.past) l) k.sent front))
+  -- where there are no data pages
+  bare_front : (mine other : Seen S) → IsLine told mine → IsLine told other → IsFront (got_of mine.state.past) (sent_of other.state.past) → mine.state.pages.count ≡ 0 → other.state.pages.count ≡ 0 → GotItems mine.state other.state
+  bare_front mine other h k front none away =
+      let lists : IsFront mine.state.got other.state.sent = subst (λ (l : List (List ℕ)). IsFront l other.state.sent) h.got (subst (λ (l : List (List ℕ)). IsFront (got_of mine.state.past) l) k.sent front) in
+      subst (λ (is : List Item). IsFront (whole mine.state.got is) (whole other.state.sent other.state.pages.sent)) (sym (h.pages.none none).1)
+      (subst (λ (is : List Item). IsFront (whole mine.state.got []) (whole other.state.sent is)) (sym (k.pages.none away).0)
+      (whole lists.0 [], ap (λ (l : List (List ℕ)). whole l []) lists.1 ∙ none_append mine.state.got lists.0))
 
-  pub items_run : (guest host : Seen S) → IsLine told guest → IsLine told host → AreOfOneRun guest.state.past host.state.past → AreOfOneRun (past_as f guest.state) (past_as f host.state)
-  items_run guest host g h one =
+  pub bare_run : (guest host : Seen S) → IsLine told guest → IsLine told host → AreOfOneRun guest.state.past host.state.past → guest.state.pages.count ≡ 0 → host.state.pages.count ≡ 0 → AreOfOneRun (past_as f guest.state) (past_as f host.state)
+  bare_run guest host g h one none away =
       let to_host : IsFront (got_of host.state.past) (sent_of guest.state.past) = subst (λ t. IsFront (got_of host.state.past) (sent_of t)) one.guest_is (subst (λ u. IsFront (got_of u) (sent_of (guest_of one.turns))) one.host_is (host_front one.turns one.run)) in
       let to_guest : IsFront (got_of guest.state.past) (sent_of host.state.past) = subst (λ t. IsFront (got_of t) (sent_of host.state.past)) one.guest_is (subst (λ u. IsFront (got_of (guest_of one.turns)) (sent_of u)) one.host_is (guest_front one.turns one.run)) in
-      let run =
-      runs_filled (λ p. f (item_of p [])) guest.state.past host.state.past (map f (whole guest.state.sent [])) (map f (whole guest.state.got [])) (map f (whole host.state.sent [])) (map f (whole host.state.got [])) one (filled_by guest g) (filled_by host h)
-      (fronts guest host g h to_guest) (fronts host guest h g to_host) in
-      subst (λ u. AreOfOneRun u (past_as f host.state)) (sym (past_bare f guest.state g.none)) (subst (λ u. AreOfOneRun (filled (λ p. f (item_of p [])) (map f (whole guest.state.sent [])) (map f (whole guest.state.got [])) guest.state.past) u) (sym (past_bare f host.state h.none)) run)
+      items_run guest host g h one (bare_front guest host g h to_guest none away) (bare_front host guest h g to_host away none)
 
-  pub items_sent : (e : Seen S) → IsLine told e → sent_of (past_as f e.state) ≡ map (λ (p : List ℕ). f (item_of p [])) e.state.sent
-  items_sent e h = ap sent_of (past_bare f e.state h.none) ∙ (all_sent (λ p. f (item_of p [])) e.state.past (map f (whole e.state.sent [])) (map f (whole e.state.got [])) (filled_by e h) ∙ bare_map f e.state.sent)
+  pub items_sent : (e : Seen S) → IsLine told e → sent_of (past_as f e.state) ≡ map f (whole e.state.sent e.state.pages.sent)
+  unfolding past_as
+  items_sent e h = all_sent (λ p. f (item_of p [])) e.state.past (map f (whole e.state.sent e.state.pages.sent)) (map f (whole e.state.got e.state.pages.got)) (line_filled f e h)
 
-  pub items_got : (e : Seen S) → IsLine told e → got_of (past_as f e.state) ≡ map (λ (p : List ℕ). f (item_of p [])) e.state.got
-  items_got e h = ap got_of (past_bare f e.state h.none) ∙ (all_got (λ p. f (item_of p [])) e.state.past (map f (whole e.state.sent [])) (map f (whole e.state.got [])) (filled_by e h) ∙ bare_map f e.state.got)
+  pub items_got : (e : Seen S) → IsLine told e → got_of (past_as f e.state) ≡ map f (whole e.state.got e.state.pages.got)
+  unfolding past_as
+  items_got e h = all_got (λ p. f (item_of p [])) e.state.past (map f (whole e.state.sent e.state.pages.sent)) (map f (whole e.state.got e.state.pages.got)) (line_filled f e h)
+
+-- the packets of the items are those that it sent and got
+pub items_packets : {S : Type 0} (told : S → Option Told) (e : Seen S) → IsLine told e → (packets (whole e.state.sent e.state.pages.sent) ≡ e.state.sent) × (packets (whole e.state.got e.state.pages.got) ≡ e.state.got)
+items_packets told e h = let a = items_along told e h in (packets_along e.state.sent e.state.pages.sent a.0, packets_along e.state.got e.state.pages.got a.1)
+
+pub items_none : {S : Type 0} (told : S → Option Told) (e : Seen S) → IsLine told e → e.state.pages.count ≡ 0
+    → (whole e.state.sent e.state.pages.sent ≡ map (λ (p : List ℕ). item_of p []) e.state.sent) × (whole e.state.got e.state.pages.got ≡ map (λ (p : List ℕ). item_of p []) e.state.got)
+items_none told e h z = let none = h.pages.none z in (ap (whole e.state.sent) none.0 ∙ whole_none e.state.sent, ap (whole e.state.got) none.1 ∙ whole_none e.state.got)

@@ -1,11 +1,14 @@
 -- A packet that was written and sent, as an item as it is read.
-use Rattle.std.proofs.Common.{◌≡◌, ◌≤◌, ℕ, List, [], ◌∷◌, length, refl, sym, ap, ◌∙◌, subst}
+use Rattle.std.proofs.Common.{◌≡◌, ◌≤◌, ℕ, List, [], ◌∷◌, length, refl, sym, ap, ◌∙◌, subst, arith}
 use Rattle.page_kept.specs.declared.item.Item.{Item}
 use Rattle.page_kept.specs.Items.{item_of}
 use Rattle.channel_trace.specs.declared.event.Event.{Event}
 use Rattle.channel_trace.specs.declared.event.Event.TheVariants.{Sent}
 use Rattle.channel_protocol.specs.Paged.{Lays}
-use Rattle.worker_port.specs.Line.{Line}
+use Rattle.ring_core.specs.Pages.{along}
+use Rattle.ring_core.specs.Seen.{Seen}
+use Rattle.ring_core.proofs.Paging.{none_along}
+use Rattle.worker_port.specs.Line.{CanLay, Line}
 use Rattle.worker_port.specs.Owed.{LaysOn, Written}
 use Rattle.worker_port.specs.Rooms.{GotInto, KeepsRoom, SentInto}
 use Rattle.worker_port.proofs.RoomLaws.{room_sent}
@@ -26,3 +29,11 @@ pub room_item : {S : Type 0} → (room : ℕ) (q : Item) (p : List ℕ) (old new
     → KeepsRoom room new
 room_item room q p old new pk le into cells takes past h =
     room_sent room q old new (subst (λ l. length l ≤ 384) (sym pk) le) into cells (subst (λ l. SentInto (length l) old new) (sym pk) takes) past h
+
+-- where there are no data pages, a send keeps its packet without page words
+pub lays_none : {S : Type 0} (e : Line S) (p words : List ℕ) (i : Item) → e.end.state.pages.count ≡ 0 → Lays p words (along e.end.state.pages p) i → Lays p words 0 i
+lays_none e p words i z lays = subst (λ (n : ℕ). Lays p words n i) (none_along e.end.state.pages p z) lays
+
+-- and lays nothing
+pub can_lay_bare : {S : Type 0} (e : Seen S) (p : List ℕ) → e.state.pages.count ≡ 0 → CanLay e p []
+can_lay_bare e p z = record { may = λ some. absurd (some z); fits = omega arith }

@@ -1,4 +1,6 @@
 pub mod RoomLaws
+pub mod PageLaws
+pub mod SendLaws
 pub mod PortLaws
 pub mod TakeLaws
 pub mod ItemLaws

@@ -1,5 +1,5 @@
 -- An end that sleeps or wakes keeps what its worker knows of it.
-use Rattle.std.proofs.Common.{◌≡◌, ◌≤◌, ◌+◌, ◌*◌, ℕ, zero, suc, List, [], ◌∷◌, ◌++◌, length, Option, Some, None, Bool, true, false, cond, eqb, refl, sym, ap, ◌∙◌, subst, arith, length-append}
+use Rattle.std.proofs.Common.{◌≡◌, ◌≢◌, ◌≤◌, ◌+◌, ◌*◌, ℕ, zero, suc, List, [], ◌∷◌, ◌++◌, length, Option, Some, None, Bool, true, false, cond, eqb, refl, sym, ap, ◌∙◌, subst, arith, length-append}
 use Rattle.std.specs.Prelude.{slice_get, not, leb, ltb, Result, Ok, Err, is_some}
 use Rattle.std.proofs.lemmas.Bool.Decides.{nat_tests}
 use Rattle.channel_trace.specs.declared.event.Event.{Event}
@@ -14,7 +14,7 @@ use Rattle.ring_machine.specs.declared.last.SendRefusal.{SendRefusal}
 use Rattle.ring_machine.specs.declared.last.SendRefusal.TheVariants.{Full as SendFull}
 use Rattle.worker_port.specs.declared.found.Tried.{Tried}
 use Rattle.worker_port.specs.declared.found.Tried.TheVariants.{Sent as TriedSent, Full as TriedFull, Broken as TriedBroken}
-use Rattle.ring_core.specs.Seen.{Seen}
+use Rattle.ring_core.specs.Seen.{Kept, Seen}
 use Rattle.ring_machine.specs.declared.machine.EndMachine.{EndMachine}
 use Rattle.ring_machine.specs.declared.machine.Stage.{Stage}
 use Rattle.ring_machine.specs.declared.machine.Stage.TheVariants.{Idle, Stopped, SendRead, SendCell, SendWrite, SendMask, SendLook, SendRaise, ArmPending, ArmMask, ArmWrite, ArmRead, ArmMark, ArmUndoMask, ArmUndoPending, PollSignal, PollMask, PollPending, MarkStore, MarkRaise}
@@ -28,7 +28,32 @@ use Rattle.ring_core.specs.declared.told.Told.{Told}
 use Rattle.ring_core.specs.Told.{Memory, Ran}
 use Rattle.ring_sleep.proofs.Telling.{told_of}
 use Rattle.ring_sleep.specs.Sleeping.{Sleeps}
-use Rattle.worker_port.specs.Line.{IsLine, Line, Tries, new_end, tried_of, armed_by, look_of, polled_by}
+use Rattle.page_kept.specs.declared.item.Item.{Item}
+use Rattle.page_kept.specs.declared.kept.Kept.{Kept as Pages}
+use Rattle.page_kept.specs.declared.owner.Owner.{Owner}
+use Rattle.page_kept.specs.Items.{packets as packets_of}
+use Rattle.page_kept.specs.Kept.{first_owner, lent_words}
+use Rattle.page_kept.specs.Layouts.{layout}
+use Rattle.page_table.specs.Table.{first_owners}
+use Rattle.io_edge.specs.declared.side.Side.{Side}
+use Rattle.io_edge.specs.declared.side.Side.TheVariants.{Guest, Host}
+use Rattle.ring_core.specs.Pages.{IsClear}
+use Rattle.worker_port.specs.Line.{AreFew, HasItems, IsLine, Line, Tries, new_end, paged_end, tried_of, armed_by, look_of, polled_by, words_at}
+use Rattle.worker_port.proofs.PageLaws.{no_words}
+use Rattle.worker_port.proofs.SendLaws.{Carried}
+
+-- the items of an end whose lists and pages stay
+pub items_on : (old new : EndState) → new.pages ≡ old.pages → new.sent ≡ old.sent → new.got ≡ old.got → HasItems old → HasItems new
+items_on old new pages sent got h = record {
+  clear = subst IsClear (sym pages) h.clear;
+  items = subst (λ (z : Pages × List (List ℕ) × List (List ℕ)). z.0.count ≢ 0 → (packets_of z.0.sent ≡ z.1) × (packets_of z.0.got ≡ z.2)) (λ i. (sym pages i, sym sent i, sym got i)) h.items;
+  none = subst (λ (k : Pages). k.count ≡ 0 → (k.sent ≡ []) × (k.got ≡ [])) (sym pages) h.none;
+  few = subst (λ (k : Pages). (i : ℕ) → length (words_at k.got i) ≤ 512) (sym pages) h.few;
+  held = subst (λ (k : Pages). AreFew k.owners) (sym pages) h.held;
+}
+
+pub quiet_items : {S : Type 0} (old new : Seen S) → Kept old new → HasItems old.state → HasItems new.state
+quiet_items old new kept h = items_on old.state new.state kept.pages kept.sent kept.got h
 
 pub slept_line : {S C : Type 0} (channel : S → C) (told : S → Option Told) (old new : Seen S) → Sleeps channel told old new → old.state.machine.marked ≡ false → new.state.machine.marked ≡ false → IsLine told old → IsLine told new
 slept_line channel told old new s before after h = record {
@@ -41,8 +66,7 @@ slept_line channel told old new s before after h = record {
   committed = s.start ∙ (h.committed ∙ sym s.read);
   mark = after ∙ (sym before ∙ (h.mark ∙ ap has_marked (sym s.past)));
   size = subst (λ n. (512 ≤ n) × (n ≤ 16777216)) (sym s.cells) h.size;
-  bare = ap (λ k. k.count) s.kept.pages ∙ h.bare;
-  none = (ap (λ k. k.sent) s.kept.pages ∙ h.none.0, ap (λ k. k.got) s.kept.pages ∙ h.none.1);
+  pages = quiet_items old new s.kept h.pages;
 }
 
 -- a send adds nothing that came, and no mark
@@ -74,24 +98,26 @@ rests_by false = refl
 awake_dozes : {X : Type 0} (b : Bool) → b ≡ false → b ≡ true → X
 awake_dozes b e f = absurd (cc)
 
--- after a send
-pub sent_line : {S : Type 0} (told : S → Option Told) (old new : Seen S) (p : List ℕ) → is_some (told new.seat) ≡ is_some (told old.seat) → ((u : Told) → told old.seat ≡ Some u → new.state.machine.stage ≡ Idle)
+-- after a send, behind page words that were stored
+pub sent_line : {S : Type 0} (told : S → Option Told) (old new : Seen S) (p : List ℕ) → is_some (told new.seat) ≡ is_some (told old.seat) → (is_some (told old.seat) ≡ true → new.state.machine.stage ≡ Idle)
     → Leaves old.state.machine new.state.machine → call_by new.state.machine.ended ≡ Send
     → LeavesBy Send old.state.machine new.state.machine → new.state.past ≡ past_of new.state.machine.ended new.state.machine.saw p old.state.past → new.state.sent ≡ sent_by new.state.machine old.state.sent p → new.state.got ≡ old.state.got → new.state.machine.cells ≡ old.state.machine.cells
-    → new.state.pages ≡ old.state.pages → old.state.machine.marked ≡ false → IsLine told old → IsLine told new
-sent_line told old new p tells honest leaves call after past sent got cells pages unmarked h = record {
-  rests = ap is_busy_at leaves.stage ∙ rests_by (is_broken new.state.machine.ended);
-  dozes = λ e. awake_dozes new.state.machine.asleep (after.awake (λ e. cc) (λ e. cc)) e;
-  honest = λ e. let o = told_of (told old.seat) (sym tells ∙ e) in honest o.0 o.1;
-  sent = ap sent_of past ∙ (sent_sent new.state.machine.ended new.state.machine.saw p old.state.past call ∙ (ap (λ l. cond (is_sent new.state.machine.ended) (l ++ p ∷ []) l) h.sent ∙ sym sent));
-  got = ap got_of past ∙ (sent_got new.state.machine.ended new.state.machine.saw p old.state.past call ∙ (h.got ∙ sym got));
-  packets = λ i q e. h.packets i q (ap (λ l. slice_get l i) (sym got) ∙ e);
-  committed = after.start (λ e. cc) ∙ (h.committed ∙ sym (after.read (λ e. cc)));
-  mark = after.unmarked (λ e. cc) ∙ (sym unmarked ∙ (h.mark ∙ sym (ap has_marked past ∙ sent_mark new.state.machine.ended new.state.machine.saw p old.state.past call)));
-  size = subst (λ n. (512 ≤ n) × (n ≤ 16777216)) (sym cells) h.size;
-  bare = ap (λ k. k.count) pages ∙ h.bare;
-  none = (ap (λ k. k.sent) pages ∙ h.none.0, ap (λ k. k.got) pages ∙ h.none.1);
-}
+    → Carried old.state.pages new.state.pages → (IsClear new.state.pages → new.state.pages.count ≢ 0 → (packets_of new.state.pages.sent ≡ new.state.sent) × (packets_of new.state.pages.got ≡ new.state.got))
+    → (new.state.pages.count ≡ 0 → (new.state.pages.sent ≡ []) × (new.state.pages.got ≡ [])) → old.state.machine.marked ≡ false → IsLine told old → IsLine told new
+sent_line told old new p tells honest leaves call after past sent got cells pages items none unmarked h =
+    let clear : IsClear new.state.pages = λ some. pages.due ∙ h.pages.clear (λ z. some (pages.count ∙ z)) in
+    record {
+      rests = ap is_busy_at leaves.stage ∙ rests_by (is_broken new.state.machine.ended);
+      dozes = λ e. awake_dozes new.state.machine.asleep (after.awake (λ e. cc) (λ e. cc)) e;
+      honest = λ e. honest (sym tells ∙ e);
+      sent = ap sent_of past ∙ (sent_sent new.state.machine.ended new.state.machine.saw p old.state.past call ∙ (ap (λ l. cond (is_sent new.state.machine.ended) (l ++ p ∷ []) l) h.sent ∙ sym sent));
+      got = ap got_of past ∙ (sent_got new.state.machine.ended new.state.machine.saw p old.state.past call ∙ (h.got ∙ sym got));
+      packets = λ i q e. h.packets i q (ap (λ l. slice_get l i) (sym got) ∙ e);
+      committed = after.start (λ e. cc) ∙ (h.committed ∙ sym (after.read (λ e. cc)));
+      mark = after.unmarked (λ e. cc) ∙ (sym unmarked ∙ (h.mark ∙ sym (ap has_marked past ∙ sent_mark new.state.machine.ended new.state.machine.saw p old.state.past call)));
+      size = subst (λ n. (512 ≤ n) × (n ≤ 16777216)) (sym cells) h.size;
+      pages = record { clear = clear; items = items clear; none = none; few = λ i. subst (λ (is : List Item). length (words_at is i) ≤ 512) (sym pages.got) (h.pages.few i); held = pages.held h.pages.held };
+    }
 
 abbrev tried_stage : Tried → Stage
 tried_stage TriedBroken = Stopped
@@ -295,8 +321,23 @@ send_finds n p s t told told' memory memory' ran idle =
     subst (λ (st : Stage). SendsAt n st t.machine) idle
     (subst (λ (u : EndState). SendsAt n u.machine.stage u.machine) (sym ran.state) (steps_send (entered s (send_begun s.machine n) p) n refl ran.values))
 
+-- the pages of a new end
+few_both : (xs ys : List Owner) → AreFew xs → AreFew ys → AreFew (xs ++ ys)
+few_both [] ys h k = k
+few_both (x ∷ xs) ys h k = (h.0, few_both xs ys h.1 k)
+
+few_owners : (x : Side) (c : ℕ) → AreFew (first_owners x c)
+few_owners x zero = tt
+few_owners x (suc c) = few_both (first_owners x c) (first_owner x ((layout 0).home c) ∷ []) (few_owners x c) (few_home x ((layout 0).home c), tt)
+  where
+    few_home : (x y : Side) → lent_words (first_owner x y) ≤ 512
+    few_home Guest Guest = omega arith
+    few_home Guest Host = omega arith
+    few_home Host Guest = omega arith
+    few_home Host Host = omega arith
+
 -- a new end is between two calls
-pub new_line : {S : Type 0} (told : S → Option Told) (e : Seen S) → e.state ≡ new_end e.state.machine.cells e.state.machine.side → (512 ≤ e.state.machine.cells) × (e.state.machine.cells ≤ 16777216) → IsLine told e
+pub new_line : {S : Type 0} (told : S → Option Told) (e : Seen S) → e.state ≡ paged_end e.state.pages.count e.state.machine.cells e.state.machine.side → (512 ≤ e.state.machine.cells) × (e.state.machine.cells ≤ 16777216) → IsLine told e
 new_line told e fresh size = record {
   rests = ap (λ s. is_busy_at s.machine.stage) fresh;
   dozes = λ _. ap (λ s. s.machine.stage) fresh;
@@ -307,9 +348,18 @@ new_line told e fresh size = record {
   committed = ap (λ s. s.machine.start) fresh ∙ sym (ap (λ s. s.machine.read) fresh);
   mark = ap (λ s. s.machine.marked) fresh ∙ sym (ap (λ s. has_marked s.past) fresh);
   size = size;
-  bare = ap (λ s. s.pages.count) fresh;
-  none = (ap (λ s. s.pages.sent) fresh, ap (λ s. s.pages.got) fresh);
+  pages = record {
+    clear = λ _. ap (λ s. s.pages.due) fresh;
+    items = λ _. (ap (λ s. packets_of s.pages.sent) fresh ∙ sym (ap (λ s. s.sent) fresh), ap (λ s. packets_of s.pages.got) fresh ∙ sym (ap (λ s. s.got) fresh));
+    none = λ _. (ap (λ s. s.pages.sent) fresh, ap (λ s. s.pages.got) fresh);
+    few = λ i. omega (arith, ap (λ s. length (words_at s.pages.got i)) fresh, ap length (no_words i));
+    held = subst (λ s. AreFew s.pages.owners) (sym fresh) (few_owners e.state.machine.side e.state.pages.count);
+  };
 }
   where
     none : {X : Type 0} (p : List ℕ) → None ≡ Some p → X
     none p at = absurd (cc)
+
+-- an end of a new channel without data pages
+pub bare_new : {S : Type 0} (e : Seen S) → e.state ≡ new_end e.state.machine.cells e.state.machine.side → e.state ≡ paged_end e.state.pages.count e.state.machine.cells e.state.machine.side
+bare_new e fresh = fresh ∙ ap (λ (c : ℕ). paged_end c e.state.machine.cells e.state.machine.side) (sym (ap (λ s. s.pages.count) fresh))

@@ -1,6 +1,6 @@
 -- How much room a worker needs, and that it lacks none.
 use Rattle.page_kept.specs.declared.item.Item.{Item}
-use Rattle.std.proofs.Common.{◌≡◌, ℕ, ◌+◌, ◌*◌, ◌<◌, ◌≤◌, List, [], ◌∷◌, ◌++◌, length, filter, refl, sym, ap, ◌∙◌, subst, arith, Bool, true, false, inl, inr, ◌⊎◌, length-append, Option}
+use Rattle.std.proofs.Common.{◌≡◌, ℕ, zero, suc, ◌+◌, ◌*◌, ◌<◌, ◌≤◌, List, [], ◌∷◌, ◌++◌, length, filter, refl, sym, ap, ◌∙◌, subst, arith, Bool, true, false, inl, inr, ◌⊎◌, length-append, Option}
 use Rattle.std.specs.Prelude.{Result, Ok, Err, is_err, None}
 use Rattle.std.proofs.lemmas.List.{length-map}
 use Rattle.std.proofs.lemmas.List.Elements.{filter-append}
@@ -16,11 +16,22 @@ use Rattle.channel_model.specs.Amounts.{room_of, besides_of, AsksAtMost, MayHave
 use Rattle.channel_model.proofs.Amounts.{never_over, sent_within, serves_at_most}
 use Rattle.channel_model.proofs.Runs.{guest_front, host_front}
 use Rattle.channel_model.proofs.Served.{filter_first}
-use Rattle.worker_port.specs.Line.{LacksTake, Line}
+use Rattle.worker_port.specs.Line.{LacksTake, Line, page_places, page_words}
+use Rattle.worker_port.proofs.PageLaws.{places_mono, places_next, words_mono, words_next}
 use Rattle.worker_port.specs.Owed.{LacksSend, LacksSendOf}
-use Rattle.worker_port.specs.Rooms.{words_in, AreShort, CameOver, HasReserved, HasReservedSent, KeepsRoom, GotInto, SentInto, AskedOver, AskedWithin, ServedWithin, AskLacksFor, ServeLacksFor, has_room, is_asked, NeverLacks}
+use Rattle.worker_port.specs.Rooms.{places_for, words_in, words_with, AreShort, CameOver, HasReserved, HasReservedSent, KeepsRoom, GotInto, SentInto, AskedOver, AskedWithin, ServedWithin, AskLacksFor, ServeLacksFor, has_room, is_asked, NeverLacks}
 use Rattle.worker_port.specs.declared.ended.Ended.{Ended}
 use Rattle.worker_port.specs.declared.ended.Ended.TheVariants.{Marked, PeerMarked, Room as RoomEnd, Broken}
+
+by_less : (m n : ℕ) → (m < n) ⊎ (n ≤ m)
+by_less zero zero = inr (omega arith)
+by_less zero (suc n) = inl (omega arith)
+by_less (suc m) zero = inr (omega arith)
+by_less (suc m) (suc n) = more (by_less m n)
+  where
+    more : (m < n) ⊎ (n ≤ m) → (suc m < suc n) ⊎ (suc n ≤ suc m)
+    more (inl h) = inl (omega (arith, h))
+    more (inr h) = inr (omega (arith, h))
 
 pub words_more : (ps : List Item) (p : Item) → words_in (ps ++ p ∷ []) ≡ words_in ps + length p.packet
 words_more [] p = omega arith
@@ -85,34 +96,61 @@ never_lacks s besides asks most serve stops asker server asked served le few one
 pub takes_over : {S : Type 0} → (kind : Item → Bool) (most room packets words : ℕ) (e : Line S) → HasReserved room e → got_of e.state.past ≡ e.state.got → LacksTake packets words e → CameOver kind most room e.state.past
 takes_over kind most room packets words e h got l = record { over = by l.lacks }
   where
-    by : (packets ≡ 0) ⊎ (words < e.state.machine.cells) → (room < length (got_of e.state.past)) ⊎ ((384 * room < words_in (got_of e.state.past)) ⊎ (most < length (filter kind (got_of e.state.past))))
-    by (inl none) = inl (omega (arith, none, l.packets_is, h.packets, ap length got))
-    by (inr less) = inr (inl (omega (arith, less, l.words_is, h.words, ap words_in got)))
+    -- either more packets came than there was room made for, or their page words have room
+    more : (room < length e.state.got) ⊎ (length e.state.got ≤ room)
+    more = by_less room (length e.state.got)
+
+    by : (packets ≡ 0) ⊎ (words < e.state.machine.cells + page_words e.end.state.pages.count 1) → (room < length (got_of e.state.past)) ⊎ ((384 * room < words_in (got_of e.state.past)) ⊎ (most < length (filter kind (got_of e.state.past))))
+    by (inl none) = places more
+      where
+        places : (room < length e.state.got) ⊎ (length e.state.got ≤ room) → (room < length (got_of e.state.past)) ⊎ ((384 * room < words_in (got_of e.state.past)) ⊎ (most < length (filter kind (got_of e.state.past))))
+        places (inl over) = inl (omega (arith, over, ap length got))
+        places (inr few) = absurd (omega (arith, none, l.packets_is, h.packets, few, places_mono e.end.state.pages.count (length e.state.got) (room + 1) (omega (arith, few))))
+    by (inr less) = words_by_count more
+      where
+        words_by_count : (room < length e.state.got) ⊎ (length e.state.got ≤ room) → (room < length (got_of e.state.past)) ⊎ ((384 * room < words_in (got_of e.state.past)) ⊎ (most < length (filter kind (got_of e.state.past))))
+        words_by_count (inl over) = inl (omega (arith, over, ap length got))
+        words_by_count (inr few) = inr (inl (omega (arith, less, l.words_is, h.words, ap words_in got, words_next e.end.state.pages.count room (room + 1) refl, words_mono e.end.state.pages.count (length e.state.got) room few)))
 
 -- a list that lacks room for a packet that goes is used up
 pub sent_up : {S : Type 0} → (room packets words : ℕ) (p : List ℕ) (e : Line S) → HasReservedSent room e → LacksSendOf packets words p e → room ≤ length (sent_of e.state.past)
 sent_up room packets words p e h l = by l.lacks
   where
-    by : (packets ≡ 0) ⊎ (words < length p) → room ≤ length (sent_of e.state.past)
+    by : (packets ≡ 0) ⊎ (words < length p + page_words e.end.state.pages.count 1) → room ≤ length (sent_of e.state.past)
     by (inl none) = omega (arith, none, l.packets_is, h.packets)
-    by (inr less) = omega (arith, less, l.words_is, h.words, l.most, short_words (sent_of e.state.past) h.short)
+    by (inr less) = used (by_less (length (sent_of e.state.past)) room)
+      where
+        used : (length (sent_of e.state.past) < room) ⊎ (room ≤ length (sent_of e.state.past)) → room ≤ length (sent_of e.state.past)
+        used (inl left) =
+            absurd (omega (arith, less, l.words_is, h.words, l.most, short_words (sent_of e.state.past) h.short, words_next e.end.state.pages.count (length (sent_of e.state.past)) (length (sent_of e.state.past) + 1) refl, words_mono e.end.state.pages.count (length (sent_of e.state.past) + 1) room (omega (arith, left)), left))
+        used (inr all) = all
 
-pub got_same : {S : Type 0} → (old new : Line S) → new.state.got ≡ old.state.got → new.spare_got ≡ old.spare_got → GotInto old new
-got_same old new got spare = record {
-  packets = omega (arith, ap length got, ap (λ (r : Room). r.packets) spare);
-  words = omega (arith, ap words_in got, ap (λ (r : Room). r.words) spare);
+pub got_same : {S : Type 0} → (old new : Line S) → new.end.state.pages.count ≡ old.end.state.pages.count → new.state.got ≡ old.state.got → new.spare_got ≡ old.spare_got → GotInto old new
+got_same old new pages got spare = record {
+  pages = pages;
+  packets = omega (arith, ap (λ l. places_for old.end.state.pages.count (length l)) got, ap (λ (r : Room). r.packets) spare);
+  words = omega (arith, ap (words_with old.end.state.pages.count) got, ap (λ (r : Room). r.words) spare);
 }
 
--- one more came
-pub got_one : {S : Type 0} → (old mid new : Line S) (p : Item) (n : ℕ) → mid.state.got ≡ old.state.got ++ p ∷ [] → length p.packet ≡ n → old.spare_got.packets ≤ mid.spare_got.packets + 1 → old.spare_got.words ≤ mid.spare_got.words + n
-    → new.state.got ≡ mid.state.got → new.spare_got ≡ mid.spare_got → GotInto old new
-got_one old mid new p n got size packets words same spare = record {
-  packets = omega (arith, packets, ap length got, length-append old.state.got (p ∷ []), ap length same, ap (λ (r : Room). r.packets) spare);
-  words = omega (arith, words, size, ap words_in got, words_more old.state.got p, ap words_in same, ap (λ (r : Room). r.words) spare);
-}
+-- one more came, with its page words
+pub got_one : {S : Type 0} → (old mid new : Line S) (p : Item) (n : ℕ) → new.end.state.pages.count ≡ old.end.state.pages.count → new.state.got ≡ old.state.got ++ p ∷ [] → length p.packet ≡ n → old.spare_got.packets ≤ mid.spare_got.packets + 1
+    → old.spare_got.words ≤ mid.spare_got.words + n → mid.spare_got.packets ≤ new.spare_got.packets + page_places old.end.state.pages.count 1 → mid.spare_got.words ≤ new.spare_got.words + page_words old.end.state.pages.count 1 → GotInto old new
+got_one old mid new p n pages got size packets words places page =
+    let c : ℕ = old.end.state.pages.count in
+    let long : length new.state.got ≡ length old.state.got + 1 = omega (arith, ap length got, length-append old.state.got (p ∷ [])) in
+    record {
+      pages = pages;
+      packets = omega (arith, packets, places, long, places_next c (length old.state.got) (length new.state.got) long);
+      words = omega (arith, words, page, size, ap words_in got, words_more old.state.got p, words_next c (length old.state.got) (length new.state.got) long);
+    }
 
 pub reserved_on : {S : Type 0} → (room : ℕ) (old new : Line S) → GotInto old new → new.state.machine.cells ≡ old.state.machine.cells → HasReserved room old → HasReserved room new
-reserved_on room old new into cells h = record { packets = omega (arith, into.packets, h.packets); words = omega (arith, into.words, h.words, cells) }
+reserved_on room old new into cells h =
+    let same = into.pages in
+    record {
+      packets = subst (λ c. places_for c (room + 1) ≤ new.spare_got.packets + places_for c (length new.state.got)) (sym same) (omega (arith, into.packets, h.packets));
+      words = subst (λ c. 384 * room + (new.state.machine.cells + page_words c (room + 1)) ≤ new.spare_got.words + words_with c new.state.got) (sym same) (omega (arith, into.words, h.words, cells));
+    }
 
 -- nothing was sent
 pub room_quiet : {S : Type 0} → (room : ℕ) (old new : Line S) → GotInto old new → new.state.machine.cells ≡ old.state.machine.cells → new.spare_sent ≡ old.spare_sent → sent_of new.state.past ≡ sent_of old.state.past → KeepsRoom room old → KeepsRoom room new
@@ -120,7 +158,8 @@ room_quiet room old new into cells spare sent h = record {
   got = reserved_on room old new into cells h.got;
   sent = record {
     packets = omega (arith, h.sent.packets, ap (λ (r : Room). r.packets) spare, ap length sent);
-    words = omega (arith, h.sent.words, ap (λ (r : Room). r.words) spare, ap words_in sent);
+    words = subst (λ c. 384 * room + page_words c room ≤ new.spare_sent.words + words_with c (sent_of new.state.past)) (sym into.pages)
+        (omega (arith, h.sent.words, ap (λ (r : Room). r.words) spare, ap (words_with old.end.state.pages.count) sent));
     short = subst AreShort (sym sent) h.sent.short;
   };
 }
@@ -130,17 +169,20 @@ pub room_sent : {S : Type 0} → (room : ℕ) (p : Item) (old new : Line S) → 
     → KeepsRoom room old → KeepsRoom room new
 room_sent room p old new le into cells takes past h =
     let sent : sent_of new.state.past ≡ sent_of old.state.past ++ p ∷ [] = ap sent_of past in
+    let long : length (sent_of new.state.past) ≡ length (sent_of old.state.past) + 1 = omega (arith, ap length sent, length-append (sent_of old.state.past) (p ∷ [])) in
     record {
       got = reserved_on room old new into cells h.got;
       sent = record {
-        packets = omega (arith, h.sent.packets, takes.packets, ap length sent, length-append (sent_of old.state.past) (p ∷ []));
-        words = omega (arith, h.sent.words, takes.words_is, ap words_in sent, words_more (sent_of old.state.past) p);
+        packets = omega (arith, h.sent.packets, takes.packets, long);
+        words = subst (λ c. 384 * room + page_words c room ≤ new.spare_sent.words + words_with c (sent_of new.state.past)) (sym into.pages)
+            (omega (arith, h.sent.words, takes.words_is, ap words_in sent, words_more (sent_of old.state.past) p, words_next old.end.state.pages.count (length (sent_of old.state.past)) (length (sent_of new.state.past)) long));
         short = subst AreShort (sym sent) (short_more (sent_of old.state.past) p h.sent.short le);
       };
     }
 
 -- a new end
-pub room_new : {S : Type 0} → (room : ℕ) (e : Line S) → e.state.past ≡ [] → e.state.got ≡ [] → room ≤ e.spare_sent.packets → 384 * room ≤ e.spare_sent.words → room + 1 ≤ e.spare_got.packets → 384 * room + e.state.machine.cells ≤ e.spare_got.words → KeepsRoom room e
+pub room_new : {S : Type 0} → (room : ℕ) (e : Line S) → e.state.past ≡ [] → e.state.got ≡ [] → room ≤ e.spare_sent.packets → 384 * room + page_words e.end.state.pages.count room ≤ e.spare_sent.words
+    → places_for e.end.state.pages.count (room + 1) ≤ e.spare_got.packets → 384 * room + (e.state.machine.cells + page_words e.end.state.pages.count (room + 1)) ≤ e.spare_got.words → KeepsRoom room e
 room_new room e past got packets words came came_words = record {
   got = record { packets = omega (arith, came); words = omega (arith, came_words) };
   sent = record { packets = omega (arith, packets); words = omega (arith, words); short = subst (λ l. AreShort (sent_of l)) (sym past) tt };

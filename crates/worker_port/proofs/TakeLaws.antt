@@ -1,12 +1,12 @@
 -- What a worker knows of its end after a take.
-use Rattle.std.proofs.Common.{◌≡◌, ◌≤◌, ℕ, zero, suc, List, [], ◌∷◌, ◌++◌, Option, Some, None, Bool, true, false, cond, eqb, refl, sym, ap, ◌∙◌, subst}
+use Rattle.std.proofs.Common.{◌≡◌, ◌≢◌, ◌≤◌, ℕ, zero, suc, List, [], ◌∷◌, ◌++◌, length, Option, Some, None, Bool, true, false, cond, inl, inr, refl, sym, ap, ◌∙◌, subst}
 use Rattle.std.specs.Prelude.{slice_get, is_some}
 use Rattle.channel_trace.specs.declared.event.Event.{Event}
 use Rattle.channel_trace.specs.declared.event.Event.TheVariants.{Got}
 use Rattle.channel_trace.specs.Runs.{sent_of, got_of, has_marked}
 use Rattle.ring_machine.specs.declared.last.TakeRefusal.{TakeRefusal}
 use Rattle.ring_machine.specs.declared.machine.Ending.{Ending}
-use Rattle.ring_machine.specs.declared.machine.Ending.TheVariants.{Empty as EndedEmpty, BadIndex, BadLength, BadOffset, CommittedQuiet, CommittedRaised}
+use Rattle.ring_machine.specs.declared.machine.Ending.TheVariants.{Empty as EndedEmpty, Took, BadIndex, BadLength, BadOffset, CommittedQuiet, CommittedRaised}
 use Rattle.ring_machine.specs.declared.last.TakeRefusal.TheVariants.{Empty as TakeEmpty}
 use Rattle.ring_machine.specs.declared.machine.EndMachine.{EndMachine}
 use Rattle.ring_machine.specs.declared.machine.Stage.{Stage}
@@ -19,17 +19,22 @@ use Rattle.ring_machine.specs.States.{Gets, IsPacket, past_of}
 use Rattle.ring_machine.specs.Steps.{call_by, is_broken, is_busy_at, is_took}
 use Rattle.page_kept.specs.declared.item.Item.{Item}
 use Rattle.page_kept.specs.declared.kept.Kept.{Kept as Pages}
-use Rattle.page_kept.specs.Kept.{first_page, gives_back, has_back, holds_now, is_held, is_lent, lends_out, pages_sent, pages_took}
+use Rattle.page_kept.specs.Items.{item_of, packets as packets_of}
+use Rattle.page_kept.specs.Kept.{pages_took}
 use Rattle.page_kept.specs.Layouts.{layout}
-use Rattle.pkt_desc.specs.Packets.{kind_of, id_of}
+use Rattle.ring_machine.specs.PageCalls.{newest}
+use Rattle.ring_core.specs.Pages.{IsClear}
+use Rattle.ring_core.proofs.Paging.{first_of, other_of}
 use Rattle.ring_core.specs.declared.told.Told.{Told}
 use Rattle.ring_core.specs.Seen.{Kept, Seen}
 use Rattle.ring_core.specs.Taking.{Takes, TakesIdle, is_honest_take}
 use Rattle.ring_core.specs.Told.{Memory}
 use Rattle.ring_sleep.proofs.Telling.{tells_on, told_of}
 use Rattle.worker_port.specs.Tries.{FoundNone}
-use Rattle.worker_port.specs.Line.{Finds, IsLine, Line, LineState, TookOne, found_of, has_packet, line_of}
-use Rattle.worker_port.proofs.ItemLaws.{found_past, got_same_as, past_finds}
+use Rattle.worker_port.specs.Line.{AreFew, Finds, IsLine, Line, LineState, TookOne, found_of, got_as, has_packet, line_of, past_as, words_at}
+use Rattle.worker_port.proofs.ItemLaws.{Grows, found_past, got_more, got_same_as, past_finds, past_got}
+use Rattle.worker_port.proofs.PortLaws.{items_on}
+use Rattle.worker_port.proofs.PageLaws.{TakenPages, TakenWhole, by_count, few_more}
 
 untook : (took : Bool) (r other : TakeRefusal) → Some r ≡ cond took None (Some other) → took ≡ false
 untook true r other e = absurd (cc)
@@ -38,6 +43,14 @@ untook false r other e = refl
 refusal_is : (took : Bool) (r other : TakeRefusal) → Some r ≡ cond took None (Some other) → r ≡ other
 refusal_is true r other e = absurd (cc)
 refusal_is false r other e = cc
+
+took_by_answer : (took : Bool) (r : TakeRefusal) → None ≡ cond took None (Some r) → took ≡ true
+took_by_answer true r e = refl
+took_by_answer false r e = absurd (cc)
+
+took_stage : (how : Ending) → is_took how ≡ true → cond (is_broken how) Stopped Idle ≡ Idle
+took_stage Took e = refl
+took_stage _ e = absurd (cc)
 
 abbrev found_stage : Found → Stage
 found_stage FoundBroken = Stopped
@@ -195,41 +208,75 @@ module _ {S : Type 0} {told : S → Option Told} {memory : S → Option Memory} 
       committed = t.after.start (λ e. cc) ∙ (h.committed ∙ sym (kept (is_took m.ended) m.read _ old.state.machine.read t.leaves.read none));
       mark = takes.awake.1 ∙ (sym unmarked ∙ (h.mark ∙ sym (ap has_marked past ∙ found_mark (found_of o) old.state.past)));
       size = subst (λ n. (512 ≤ n) × (n ≤ 16777216)) (sym takes.cells) h.size;
-      bare = ap (λ k. k.count) pages ∙ h.bare;
-      none = (ap (λ k. k.sent) pages ∙ h.none.0, ap (λ k. k.got) pages ∙ h.none.1);
+      pages = items_on old.state new.state pages takes.kept.0 (t.refused none).0 h.pages;
     }
 
-  -- after one that took a packet, whose cells were given back
-  pub one_taken : (old mid new : Seen S) (o : Option TakeRefusal) → Takes S told memory same old mid o → Gets mid.state.machine.len old.state.got mid.state.got old.state.past mid.state.past
-      → mid.state.pages ≡ old.state.pages → old.state.machine.marked ≡ false → LeavesBy Commit mid.state.machine new.state.machine → new.state.machine.cells ≡ mid.state.machine.cells → new.state.past ≡ mid.state.past → Kept mid new → IsLine told old → IsLine told new
-  one_taken old mid new o takes gets pages unmarked after cells past kept h =
-      let list : new.state.got ≡ old.state.got ++ gets.words ∷ [] = kept.got ∙ gets.list in
-      let events : new.state.past ≡ Got gets.words ∷ old.state.past = past ∙ gets.past_is in
-      record {
-        rests = ap is_busy_at (after.idle (λ e. cc) (λ e. cc));
-        dozes = λ _. after.idle (λ e. cc) (λ e. cc);
-        honest = λ _. after.idle (λ e. cc) (λ e. cc);
-        sent = ap sent_of events ∙ (h.sent ∙ sym (kept.sent ∙ takes.kept.0));
-        got = ap got_of events ∙ (ap (λ l. l ++ gets.words ∷ []) h.got ∙ sym list);
-        packets = λ i p e. packets_more old.state.got gets.words gets.packet h.packets i p (ap (λ l. slice_get l i) (sym list) ∙ e);
-        committed = after.committed refl;
-        mark = after.unmarked (λ e. cc) ∙ (sym unmarked ∙ (h.mark ∙ ap has_marked (sym events)));
-        size = subst (λ n. (512 ≤ n) × (n ≤ 16777216)) (sym (cells ∙ takes.cells)) h.size;
-        bare = ap (λ k. k.count) (kept.pages ∙ pages) ∙ h.bare;
-        none = (ap (λ k. k.sent) (kept.pages ∙ pages) ∙ h.none.0, ap (λ k. k.got) (kept.pages ∙ pages) ∙ h.none.1);
-      }
+    -- the pages stay
+    pub refused_pages : new.state.pages ≡ cond (is_took m.ended) (pages_took (layout old.state.pages.count) old.state.pages (newest new.state.got)) old.state.pages → new.state.pages ≡ old.state.pages
+    refused_pages is = is ∙ other_of (is_took m.ended) (pages_took (layout old.state.pages.count) old.state.pages (newest new.state.got)) old.state.pages none
 
--- a channel without pages keeps none
-none_took : (k : Pages) (b : Bool) (p : List ℕ) → k.count ≡ 0 → cond b (pages_took (layout k.count) k p) k ≡ k
-none_took k true p e = ap (λ (n : ℕ). cond (eqb n 0) k (cond (eqb (kind_of p) 11) (has_back k p (first_page (is_lent (id_of p)) 0 k.owners)) (holds_now k p ((layout k.count).lends p)))) e
-none_took k false p e = refl
+  -- the pages, where a packet was taken
+  pub took_pages_of : (old new : Seen S) (o : Option TakeRefusal) → Takes S told memory same old new o → old.state.machine.stage ≡ Idle → o ≡ None
+      → new.state.pages ≡ cond (is_took new.state.machine.ended) (pages_took (layout old.state.pages.count) old.state.pages (newest new.state.got)) old.state.pages → new.state.pages ≡ pages_took (layout old.state.pages.count) old.state.pages (newest new.state.got)
+  took_pages_of old new o takes idle none is =
+      is ∙ first_of (is_took new.state.machine.ended) (pages_took (layout old.state.pages.count) old.state.pages (newest new.state.got)) old.state.pages (took_by_answer (is_took new.state.machine.ended) (take_refusal new.state.machine.ended new.state.machine) (sym none ∙ (takes.idle idle).answer))
 
-pub no_pages_took : (k k' : Pages) (b : Bool) (p : List ℕ) → k.count ≡ 0 → k' ≡ cond b (pages_took (layout k.count) k p) k → k' ≡ k
-no_pages_took k k' b p e is = is ∙ none_took k b p e
+  pub took_idle : (old new : Seen S) (o : Option TakeRefusal) → Takes S told memory same old new o → old.state.machine.stage ≡ Idle → o ≡ None → new.state.machine.stage ≡ Idle
+  took_idle old new o takes idle none =
+      (takes.idle idle).leaves.stage ∙ took_stage new.state.machine.ended (took_by_answer (is_took new.state.machine.ended) (take_refusal new.state.machine.ended new.state.machine) (sym none ∙ (takes.idle idle).answer))
 
-none_sent : (k : Pages) (b : Bool) (p : List ℕ) → k.count ≡ 0 → cond b (pages_sent (layout k.count) k p) k ≡ k
-none_sent k true p e = ap (λ (n : ℕ). cond (eqb n 0) k (cond (eqb (kind_of p) 11) (gives_back k p (first_page (is_held (id_of p)) 0 k.owners)) (lends_out k p ((layout k.count).lends p)))) e
-none_sent k false p e = refl
+  -- after one that took a packet, whose page words were loaded, and whose cells were given back
+  module _ (old mid whole new : Seen S) (o : Option TakeRefusal) (takes : Takes S told memory same old mid o) (gets : Gets mid.state.machine.len old.state.got mid.state.got old.state.past mid.state.past)
+      (w : TakenWhole told same old.state.pages gets.words mid whole) (past : new.state.past ≡ whole.state.past) (kept : Kept whole new) (h : IsLine told old) where
+    abbrev tp : TakenPages old.state.pages whole.state.pages gets.words w.words
+    tp = w.pages
 
-pub no_pages_sent : (k k' : Pages) (b : Bool) (p : List ℕ) → k.count ≡ 0 → k' ≡ cond b (pages_sent (layout k.count) k p) k → k' ≡ k
-no_pages_sent k k' b p e is = is ∙ none_sent k b p e
+    took_events : new.state.past ≡ Got gets.words ∷ old.state.past
+    took_events = past ∙ (w.past ∙ gets.past_is)
+
+    took_list : new.state.got ≡ old.state.got ++ gets.words ∷ []
+    took_list = kept.got ∙ (w.list_got ∙ gets.list)
+
+    sent_list : new.state.sent ≡ old.state.sent
+    sent_list = kept.sent ∙ (w.list_sent ∙ takes.kept.0)
+
+    pub taken_count : new.state.pages.count ≡ old.state.pages.count
+    taken_count = ap (λ k. k.count) kept.pages ∙ tp.count
+
+    took_sent : new.state.pages.sent ≡ old.state.pages.sent
+    took_sent = ap (λ k. k.sent) kept.pages ∙ tp.sent
+
+    -- the packet and its page words stand last
+    grown : Grows old.state.got new.state.got old.state.pages.got new.state.pages.got gets.words w.words
+    grown = record {
+      list = took_list;
+      items = by_count old.state.pages.count (λ z. inl ((h.pages.none z).1, ap (λ k. k.got) kept.pages ∙ ((tp.none z).1 ∙ (h.pages.none z).1), (tp.none z).0)) (λ some. inr ((h.pages.items some).1, ap (λ k. k.got) kept.pages ∙ tp.some some));
+    }
+
+    module _ (f : Item → Item) where
+      pub taken_past : past_as f new.state ≡ Got (f (item_of gets.words w.words)) ∷ past_as f old.state
+      taken_past = past_got f old new gets.words w.words h took_events grown sent_list took_sent
+
+      pub taken_got : got_as f new.state ≡ got_as f old.state ++ f (item_of gets.words w.words) ∷ []
+      taken_got = got_more f old new gets.words w.words grown
+
+    pub one_taken : old.state.machine.marked ≡ false → LeavesBy Commit whole.state.machine new.state.machine → new.state.machine.cells ≡ whole.state.machine.cells
+        → (IsClear whole.state.pages → whole.state.pages.count ≢ 0 → (packets_of whole.state.pages.sent ≡ whole.state.sent) × (packets_of whole.state.pages.got ≡ whole.state.got))
+        → (whole.state.pages.count ≡ 0 → (whole.state.pages.sent ≡ []) × (whole.state.pages.got ≡ [])) → IsLine told new
+    one_taken unmarked after cells items none = record {
+      rests = ap is_busy_at (after.idle (λ e. cc) (λ e. cc));
+      dozes = λ _. after.idle (λ e. cc) (λ e. cc);
+      honest = λ _. after.idle (λ e. cc) (λ e. cc);
+      sent = ap sent_of took_events ∙ (h.sent ∙ sym sent_list);
+      got = ap got_of took_events ∙ (ap (λ l. l ++ gets.words ∷ []) h.got ∙ sym took_list);
+      packets = λ i p e. packets_more old.state.got gets.words gets.packet h.packets i p (ap (λ l. slice_get l i) (sym took_list) ∙ e);
+      committed = after.committed refl;
+      mark = after.unmarked (λ e. cc) ∙ (sym unmarked ∙ (h.mark ∙ ap has_marked (sym took_events)));
+      size = subst (λ n. (512 ≤ n) × (n ≤ 16777216)) (sym (cells ∙ (ap (λ m. m.cells) w.machine ∙ takes.cells))) h.size;
+      pages = items_on whole.state new.state kept.pages kept.sent kept.got (record { clear = tp.clear; items = items tp.clear; none = none; few = few_whole; held = tp.held h.pages.held });
+    }
+      where
+        few_whole : (i : ℕ) → length (words_at whole.state.pages.got i) ≤ 512
+        few_whole i =
+            by_count old.state.pages.count (λ z. subst (λ is. length (words_at is i) ≤ 512) (sym (tp.none z).1) (h.pages.few i))
+            (λ some. subst (λ is. length (words_at is i) ≤ 512) (sym (tp.some some)) (few_more old.state.pages.got gets.words w.words h.pages.few tp.few i))

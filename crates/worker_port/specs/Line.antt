@@ -1,11 +1,15 @@
 -- One end of a channel, as its worker sees it.
-use Rattle.std.specs.Prelude.{ℕ, ◌≡◌, ◌<◌, ◌≤◌, ◌⊎◌, Bool, true, false, List, [], ◌∷◌, ◌++◌, map, slice_get, Option, Some, None, is_some, Result, Ok, Err}
+use Rattle.std.specs.Prelude.{ℕ, zero, suc, ◌≡◌, ◌≢◌, ◌<◌, ◌≤◌, ◌+◌, ◌*◌, ◌==◌, ◌⊎◌, Bool, true, false, cond, List, [], ◌∷◌, ◌++◌, length, map, slice_get, Option, Some, None, is_some, Result, Ok, Err}
 use Rattle.channel_trace.specs.declared.event.Event.{Event}
 use Rattle.channel_trace.specs.declared.event.Event.TheVariants.{Sent, Got, Empty, Saw}
-use Rattle.channel_trace.specs.Runs.{sent_of, got_of, has_marked}
+use Rattle.channel_trace.specs.Runs.{IsFront, sent_of, got_of, has_marked}
 use Rattle.channel_trace.specs.Filled.{filled}
 use Rattle.page_kept.specs.declared.item.Item.{Item}
-use Rattle.page_kept.specs.Items.{item_of}
+use Rattle.page_kept.specs.Items.{item_of, packets as packets_of}
+use Rattle.page_kept.specs.Kept.{lent_words, pages_sent}
+use Rattle.page_kept.specs.Layouts.{layout}
+use Rattle.page_kept.specs.declared.kept.Kept.{Kept}
+use Rattle.page_kept.specs.declared.owner.Owner.{Owner}
 use Rattle.ring_machine.specs.declared.machine.Stage.TheVariants.{Idle, Stopped}
 use Rattle.ring_machine.specs.declared.last.Armed.{Armed}
 use Rattle.ring_machine.specs.declared.last.Armed.TheVariants.{Asleep, Work as ArmedWork}
@@ -15,8 +19,10 @@ use Rattle.ring_machine.specs.declared.machine.EndMachine.{EndMachine}
 use Rattle.ring_machine.specs.declared.state.EndState.{EndState}
 use Rattle.ring_machine.specs.Endings.{want_of}
 use Rattle.ring_core.specs.declared.room.Room.{Room}
+use Rattle.ring_core.specs.Laying.{laid}
+use Rattle.ring_core.specs.Pages.{IsClear, along, first_kept, last_words}
 use Rattle.ring_core.specs.Seen.{Seen}
-use Rattle.ring_machine.specs.States.{IsPacket, resting}
+use Rattle.ring_machine.specs.States.{IsPacket, MayLend, resting, resting_with}
 use Rattle.ring_machine.specs.Steps.{is_busy_at, machine_new, poll_begun}
 use Rattle.io_edge.specs.declared.side.Side.{Side}
 use Rattle.ring_core.specs.declared.told.Told.{Told}
@@ -37,11 +43,19 @@ use Rattle.worker_port.specs.declared.port.ArmResult.TheVariants.{Nothing, Work,
 abbrev pub new_end : ℕ → Side → EndState
 new_end n x = resting (machine_new x n) [] [] []
 
+-- and one that has c data pages besides
+abbrev pub paged_end : ℕ → ℕ → Side → EndState
+paged_end c n x = resting_with (machine_new x n) [] [] [] (first_kept x c)
+
 -- packets, each with the page words that it has in these items: none past the items
 abbrev pub whole : List (List ℕ) → List Item → List Item
 whole [] is = []
 whole (p ∷ ps) [] = item_of p [] ∷ whole ps []
 whole (p ∷ ps) (i ∷ is) = i ∷ whole ps is
+
+-- what an end got with page words is the front of what the other one sent
+abbrev pub GotItems : EndState → EndState → Type 0
+GotItems e other = IsFront (whole e.got e.pages.got) (whole other.sent other.pages.sent)
 
 -- what an end did and got, in items as they are read
 unfoldable pub past_as : (Item → Item) → EndState → List (Event Item)
@@ -49,6 +63,28 @@ past_as f e = filled (λ p. f (item_of p [])) (map f (whole e.sent e.pages.sent)
 
 unfoldable pub got_as : (Item → Item) → EndState → List Item
 got_as f e = map f (whole e.got e.pages.got)
+
+-- the page words of the item at a place: none past the items
+abbrev pub words_of : Option Item → List ℕ
+words_of None = []
+words_of (Some i) = i.words
+
+unfoldable pub words_at : List Item → ℕ → List ℕ
+words_at is i = words_of (slice_get is i)
+
+-- no page is held with more words than it has
+abbrev pub AreFew : List Owner → Type 0
+AreFew [] = Unit {0}
+AreFew (o ∷ os) = (lent_words o ≤ 512) × AreFew os
+
+-- a channel of c data pages has the words of a whole page with each of n packets, and a place for them; one without has none
+abbrev pub page_words : ℕ → ℕ → ℕ
+page_words zero n = 0
+page_words (suc c) n = 512 * n
+
+abbrev pub page_places : ℕ → ℕ → ℕ
+page_places zero n = 0
+page_places (suc c) n = n
 
 -- what a worker sees of its end's state
 pub record LineState : Type 0 where
@@ -67,8 +103,16 @@ pub record Line (S : Type 0) : Type 0 where
 abbrev pub line_of : {S : Type 0} → (Item → Item) → Seen S → Line S
 line_of f e = record { end = e; state = record { machine = e.state.machine; past = past_as f e.state; got = got_as f e.state }; seat = e.seat; spare_sent = e.spare_sent; spare_got = e.spare_got }
 
--- between two calls of a worker: the list of what was got is that of the end's past, the cells of each packet in it were given back, and the channel has no
--- data pages. No call is under way; where the end sleeps, or the seat tells the end's state, the end isn't stopped
+-- No page word is to be loaded: each packet that was sent or got has its page words, at most those of a page, and none in a channel without data pages
+pub record HasItems (e : EndState) : Type 0 where
+  pub clear : IsClear e.pages
+  pub items : e.pages.count ≢ 0 → (packets_of e.pages.sent ≡ e.sent) × (packets_of e.pages.got ≡ e.got)
+  pub none : e.pages.count ≡ 0 → (e.pages.sent ≡ []) × (e.pages.got ≡ [])
+  pub few : (i : ℕ) → length (words_at e.pages.got i) ≤ 512
+  pub held : AreFew e.pages.owners
+
+-- Between two calls of a worker: the list of what was got is that of the end's past, the cells of each packet in it were given back, and each packet has its page
+-- words. No call is under way; where the end sleeps, or the seat tells the end's state, the end isn't stopped
 pub record IsLine {S : Type 0} (told : S → Option Told) (e : Seen S) : Type 0 where
   pub rests : is_busy_at e.state.machine.stage ≡ false
   pub dozes : e.state.machine.asleep ≡ true → e.state.machine.stage ≡ Idle
@@ -79,12 +123,20 @@ pub record IsLine {S : Type 0} (told : S → Option Told) (e : Seen S) : Type 0 
   pub committed : e.state.machine.start ≡ e.state.machine.read
   pub mark : e.state.machine.marked ≡ has_marked e.state.past
   pub size : (512 ≤ e.state.machine.cells) × (e.state.machine.cells ≤ 16777216)
-  pub bare : e.state.pages.count ≡ 0
-  pub none : (e.state.pages.sent ≡ []) × (e.state.pages.got ≡ [])
+  pub pages : HasItems e.state
 
--- the item that a send of this packet keeps, behind a store of these page words: it has no page words in a channel without data pages
+-- the page words that go along with a packet behind a store of these: none in a channel without data pages
+abbrev pub words_sent : Kept → List ℕ → List ℕ → List ℕ
+words_sent k p words = cond (k.count == 0) [] (last_words (pages_sent (layout k.count) (laid k p words) p).sent)
+
+-- the item that a send of this packet keeps, behind a store of these page words
 unfoldable pub item_sent : {S : Type 0} → Line S → List ℕ → List ℕ → Item
-item_sent e p words = item_of p []
+item_sent e p words = item_of p (words_sent e.end.state.pages p words)
+
+-- these page words may be stored for a packet that may be sent, as far as the pages go: there is a part of a page for them, that goes along with it
+pub record CanLay {S : Type 0} (e : Seen S) (p words : List ℕ) : Type 0 where
+  pub may : MayLend e.state p
+  pub fits : length words ≤ along e.state.pages p
 
 -- it can begin a call
 pub record IsReady {S : Type 0} (e : Line S) : Type 0 where
@@ -132,10 +184,11 @@ past_tried TriedSent i past = Sent i ∷ past
 past_tried TriedFull i past = past
 past_tried TriedBroken i past = past
 
--- a later state of one and the same end
+-- a later state of one and the same end, of a channel with the same number of data pages
 pub record IsSameEnd {S C : Type 0} (channel : S → C) (old new : Seen S) : Type 0 where
   pub seat : channel new.seat ≡ channel old.seat
   pub side : new.state.machine.side ≡ old.state.machine.side
+  pub pages : new.state.pages.count ≡ old.state.pages.count
 
 -- one and the same end, with the same cells
 pub record Stays {S C : Type 0} (channel : S → C) (told : S → Option Told) (old new : Line S) : Type 0 where
@@ -191,7 +244,7 @@ pub record SleepsFor {S : Type 0} (want : Option ℕ) (e : Line S) : Type 0 wher
 pub record LacksTake {S : Type 0} (packets words : ℕ) (e : Line S) : Type 0 where
   pub packets_is : packets ≡ e.spare_got.packets
   pub words_is : words ≡ e.spare_got.words
-  pub lacks : (packets ≡ 0) ⊎ (words < e.state.machine.cells)
+  pub lacks : (packets ≡ 0) ⊎ (words < e.state.machine.cells + page_words e.end.state.pages.count 1)
 
 abbrev pub HasTakeRoom : {S : Type 0} → Line S → Type 0
-HasTakeRoom e = (0 < e.spare_got.packets) × (e.state.machine.cells ≤ e.spare_got.words)
+HasTakeRoom e = (0 < e.spare_got.packets) × (e.state.machine.cells + page_words e.end.state.pages.count 1 ≤ e.spare_got.words)

@@ -2,7 +2,7 @@
 use Rattle.page_kept.specs.declared.item.Item.{Item}
 use Rattle.channel_protocol.specs.declared.protocol.Written.{Written as Spread}
 use Rattle.channel_protocol.specs.Paged.{IsWritten, Lays, LaysSome}
-use Rattle.worker_port.specs.Line.{Line}
+use Rattle.worker_port.specs.Line.{Line, page_words}
 use Rattle.std.specs.Prelude.{ℕ, ◌≡◌, ◌<◌, ◌≤◌, ◌+◌, ◌*◌, ◌⊎◌, Bool, true, false, List, [], ◌∷◌, length, take, Option, Some, None}
 use Rattle.ring_machine.specs.States.{IsPacket}
 use Rattle.channel_model.specs.WireFormat.{WireFormat}
@@ -46,7 +46,7 @@ pub record LacksSendOf {S : Type 0} (packets words : ℕ) (p : List ℕ) (e : Li
   pub most : length p ≤ 384
   pub packets_is : packets ≡ e.spare_sent.packets
   pub words_is : words ≡ e.spare_sent.words
-  pub lacks : (packets ≡ 0) ⊎ (words < length p)
+  pub lacks : (packets ≡ 0) ⊎ (words < length p + page_words e.end.state.pages.count 1)
 
 -- the first of these packets lacks it
 pub record LacksSend {S : Type 0} (packets words : ℕ) (owed : List Item) (e : Line S) : Type 0 where
@@ -56,7 +56,7 @@ pub record LacksSend {S : Type 0} (packets words : ℕ) (owed : List Item) (e : 
   pub room : LacksSendOf packets words packet.packet e
 
 abbrev pub HasSendRoom : {S : Type 0} → List ℕ → Line S → Type 0
-HasSendRoom p e = (0 < e.spare_sent.packets) × (length p ≤ e.spare_sent.words)
+HasSendRoom p e = (0 < e.spare_sent.packets) × (length p + page_words e.end.state.pages.count 1 ≤ e.spare_sent.words)
 
 -- the end's machine keeps no more room than the first of these packets and its trailer take, and the length of that packet. A take keeps a length too: that this very packet was
 -- tried is said by `TriedLast`

@@ -4,7 +4,7 @@ use Rattle.channel_trace.specs.declared.event.Event.{Event}
 use Rattle.channel_trace.specs.Laws.{AreOfOneRun}
 use Rattle.channel_trace.specs.Runs.{sent_of, got_of}
 use Rattle.page_kept.specs.declared.item.Item.{Item}
-use Rattle.worker_port.specs.Line.{Line}
+use Rattle.worker_port.specs.Line.{Line, page_places, page_words}
 use Rattle.channel_model.specs.WireFormat.{WireFormat}
 use Rattle.channel_model.specs.Amounts.{room_of, besides_of, AsksAtMost, ServesAtMost}
 use Rattle.worker_port.specs.declared.ended.Ended.{Ended}
@@ -30,16 +30,24 @@ pub record CameOver (kind : Item → Bool) (most room : ℕ) (past : List (Event
 abbrev pub AskedOver : (Item → Bool) → ℕ → List (Event Item) → Type 0
 AskedOver asks serve past = serve < length (filter asks (got_of past))
 
--- the room that was reserved for what comes, some of which is used up by what came: one packet more than so many, and the words of a whole ring besides
--- 384 for each
+-- the places for so many packets of a channel with c data pages, and for the page words of each
+abbrev pub places_for : ℕ → ℕ → ℕ
+places_for c n = n + page_places c n
+
+-- the words of these packets, and of a page with each
+abbrev pub words_with : ℕ → List Item → ℕ
+words_with c ps = words_in ps + page_words c (length ps)
+
+-- The room that was reserved for what comes, some of which is used up by what came: one packet more than so many, and the words of a whole ring besides
+-- 384 for each. In a channel with data pages there are the words of a page for each packet, and a place for them
 pub record HasReserved {S : Type 0} (room : ℕ) (e : Line S) : Type 0 where
-  pub packets : room + 1 ≤ e.spare_got.packets + length e.state.got
-  pub words : 384 * room + e.state.machine.cells ≤ e.spare_got.words + words_in e.state.got
+  pub packets : places_for e.end.state.pages.count (room + 1) ≤ e.spare_got.packets + places_for e.end.state.pages.count (length e.state.got)
+  pub words : 384 * room + (e.state.machine.cells + page_words e.end.state.pages.count (room + 1)) ≤ e.spare_got.words + words_with e.end.state.pages.count e.state.got
 
 -- the room that was reserved for what goes, some of which is used up by what went
 pub record HasReservedSent {S : Type 0} (room : ℕ) (e : Line S) : Type 0 where
   pub packets : room ≤ e.spare_sent.packets + length (sent_of e.state.past)
-  pub words : 384 * room ≤ e.spare_sent.words + words_in (sent_of e.state.past)
+  pub words : 384 * room + page_words e.end.state.pages.count room ≤ e.spare_sent.words + words_with e.end.state.pages.count (sent_of e.state.past)
   pub short : AreShort (sent_of e.state.past)
 
 -- a worker keeps within its room: as many packets come and go
@@ -49,13 +57,14 @@ pub record KeepsRoom {S : Type 0} (room : ℕ) (e : Line S) : Type 0 where
 
 -- what is left of the room for what comes shrinks by what came alone
 pub record GotInto {S : Type 0} (old new : Line S) : Type 0 where
-  pub packets : old.spare_got.packets + length old.state.got ≤ new.spare_got.packets + length new.state.got
-  pub words : old.spare_got.words + words_in old.state.got ≤ new.spare_got.words + words_in new.state.got
+  pub pages : new.end.state.pages.count ≡ old.end.state.pages.count
+  pub packets : old.spare_got.packets + places_for old.end.state.pages.count (length old.state.got) ≤ new.spare_got.packets + places_for old.end.state.pages.count (length new.state.got)
+  pub words : old.spare_got.words + words_with old.end.state.pages.count old.state.got ≤ new.spare_got.words + words_with old.end.state.pages.count new.state.got
 
--- a packet that is sent takes its room at most
+-- a packet that is sent takes its room at most, and that of a page with it
 pub record SentInto {S : Type 0} (words : ℕ) (old new : Line S) : Type 0 where
   pub packets : old.spare_sent.packets ≤ new.spare_sent.packets + 1
-  pub words_is : old.spare_sent.words ≤ new.spare_sent.words + words
+  pub words_is : old.spare_sent.words ≤ new.spare_sent.words + (words + page_words old.end.state.pages.count 1)
 
 -- it ended, and not for want of room
 abbrev pub has_room : Ended → Bool

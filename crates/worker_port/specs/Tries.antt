@@ -1,9 +1,12 @@
 -- One call of an end, from what a contract sees of it before to what it sees after; an end's last three calls where it let a packet go; and those of a turn that
 -- left it asleep.
-use Rattle.std.specs.Prelude.{ℕ, ◌≡◌, List, [], length, Option}
+use Rattle.std.specs.Prelude.{ℕ, ◌≡◌, ◌≢◌, List, [], length, Option, Some, None}
+use Rattle.page_kept.specs.Layouts.{Loan}
+use Rattle.page_table.specs.Table.{part_in}
 use Rattle.ring_machine.specs.Endings.{want_of}
 use Rattle.ring_machine.specs.declared.machine.Ending.TheVariants.{Empty, FellAsleep, Full}
 use Rattle.ring_machine.specs.Steps.{arm_begun, mark_begun, send_begun, take_begun}
+use Rattle.ring_core.specs.Laying.{RanStores}
 use Rattle.ring_core.specs.Seen.{Seen}
 use Rattle.ring_core.specs.declared.told.Told.{Told}
 use Rattle.ring_core.specs.Told.{Memory, MakesSteps}
@@ -11,6 +14,12 @@ use Rattle.ring_core.specs.Told.{Memory, MakesSteps}
 -- it looked once for a packet
 abbrev pub LookedOnce : {S : Type 0} → (S → Option Told) → (S → Option Memory) → Seen S → Seen S → Type 0
 LookedOnce told memory old new = MakesSteps told memory (take_begun old.state.machine) [] old new
+
+-- it stored these page words for this packet, into the part of a page that goes along with it, one step a word; where there are no words it did nothing
+pub record LaidOnce {S : Type 0} (told : S → Option Told) (memory : S → Option Memory) (p words : List ℕ) (old new : Seen S) : Type 0 where
+  pub none : words ≡ [] → new ≡ old
+  pub away : part_in old.state.pages.owners p ≡ None → new ≡ old
+  pub ran : words ≢ [] → (a : Loan) → part_in old.state.pages.owners p ≡ Some a → RanStores old.state new.state a.page words (told old.seat) (told new.seat) (memory old.seat) (memory new.seat)
 
 -- it tried once to send this packet
 abbrev pub TriedOnce : {S : Type 0} → (S → Option Told) → (S → Option Memory) → List ℕ → Seen S → Seen S → Type 0

@@ -2,6 +2,7 @@
 //! turn goes and ends.
 #![tactic(auto)]
 
+mod carry;
 mod ended;
 mod found;
 pub mod laws;

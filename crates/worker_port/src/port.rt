@@ -1,5 +1,5 @@
 //! One end of a channel, as its worker uses it.
-ghost use Rattle.std.specs.Prelude.{◌≡◌, ◌≢◌, ◌<◌, ◌≤◌, ◌+◌, ◌*◌, ◌^◌, ◌++◌, [], ◌∷◌, ℕ, List, true, false, not, length, slice_get, is_some, Some, IfOk, OnOk, MatchOption, if◌then◌else◌};
+ghost use Rattle.std.specs.Prelude.{◌≡◌, ◌≢◌, ◌<◌, ◌≤◌, ◌-◌, ◌+◌, ◌*◌, ◌^◌, ◌++◌, [], ◌∷◌, ℕ, List, true, false, not, length, slice_get, is_some, Some, IfOk, OnOk, MatchOption, if◌then◌else◌};
 ghost use Rattle.channel_trace.specs.declared.event.Event.TheVariants.{Marked};
 ghost use Rattle.channel_trace.specs.Runs.{got_of, has_marked};
 ghost use Rattle.ring_machine.specs.Endings.{want_of};
@@ -13,10 +13,14 @@ ghost use Rattle.worker_port.specs.Rooms.{GotInto, KeepsRoom, SentInto};
 ghost use Rattle.page_kept.specs.declared.item.Item.{Item};
 ghost use Rattle.page_kept.specs.Items.{item_of};
 ghost use Rattle.channel_protocol.specs.Paged.{Lays};
-ghost use Rattle.worker_port.specs.Line.{new_end, IsLine, line_of, item_sent, past_as, IsBroken, IsReady, Tries, Finds, past_tried, Stays, TookOne, looked, look_of, is_asleep, armed_by, polled_by, PolledOnce, HasTakeRoom, LacksTake};
-ghost use Rattle.worker_port.specs.Tries.{ArmedOnce, FoundNone, MarkedOnce, TriedOnce};
+ghost use Rattle.worker_port.specs.Line.{paged_end, page_words, words_at, CanLay, IsLine, line_of, item_sent, past_as, IsBroken, IsReady, Tries, Finds, past_tried, Stays, TookOne, looked, look_of, is_asleep, armed_by, polled_by, PolledOnce, HasTakeRoom, LacksTake};
+ghost use Rattle.worker_port.specs.Tries.{ArmedOnce, FoundNone, LaidOnce, MarkedOnce, TriedOnce};
+ghost use Rattle.ring_core.specs.Pages.{along};
+ghost use Rattle.ring_core.specs.Seen.{Seen};
 
+use crate::carry::{lay_all, load_all};
 use crate::found::{Found, Tried, found_by, has_packet, tried_by};
+use crate::room::{places_of_pages, words_of_pages};
 use channel_protocol::Protocol;
 use ring_core::{Armed, End, Room};
 use ring_sleep::{Parks, sleep};
@@ -35,8 +39,8 @@ pub enum ArmResult {
     Mark,
 }
 
-/// An end of a channel whose peer is one of this program's. It gives the cells of a packet back as soon as it took it. Contracts see what it did and got in
-/// items as this protocol reads them.
+/// An end of a channel whose peer is one of this program's. It takes a packet with all its page words, and gives its cells back as soon as it has these; page words
+/// are stored right before each try to send. Contracts see what it did and got in items as this protocol reads them.
 #[derive(Drop)]
 pub struct Port<T: Protocol, S: Parks> {
     end: End<S>,
@@ -56,7 +60,7 @@ impl<T: Protocol, S: Parks> Model for Port<T, S> {
 impl<T: Protocol, S: Parks + Drop> Port<T, S> {
     // A port over a new end, whose rings have 512 to 16,777,216 cells.
     fn over(end: End<S>) -> Port<T, S>
-        requires fresh { end.state ≡ new_end end.state.machine.cells end.state.machine.side }
+        requires fresh { end.state ≡ paged_end end.state.pages.count end.state.machine.cells end.state.machine.side }
         requires size { (512 ≤ end.state.machine.cells) × (end.state.machine.cells ≤ 16777216) }
         ensures { result ≡ line_of T.said end }
     {
@@ -75,9 +79,10 @@ impl<T: Protocol, S: Parks + Drop> Port<T, S> {
     }
 
     /// A port over a new end, whose rings have 512 to 16,777,216 cells. It makes room for so many packets each way, and of what comes for one more, and the words
-    /// of a whole ring besides 384 for each. Afterwards neither `send` nor `take` allocates.
+    /// of a whole ring besides 384 for each; in a channel with data pages for the words of a page with each packet, too. Afterwards neither `send` nor `take`
+    /// allocates.
     pub fn with_room(end: End<S>, packets: u64) -> Result<Port<T, S>, AllocError>
-        requires fresh { end.state ≡ new_end end.state.machine.cells end.state.machine.side }
+        requires fresh { end.state ≡ paged_end end.state.pages.count end.state.machine.cells end.state.machine.side }
         requires size { (512 ≤ end.state.machine.cells) × (end.state.machine.cells ≤ 16777216) }
         requires few { packets ≤ 2 ^ 34 }
         ensures end { IfOk result (λ p. (p.end.state ≡ end.state) × (p.end.seat ≡ end.seat) × (p.seat ≡ end.seat)) }
@@ -86,13 +91,14 @@ impl<T: Protocol, S: Parks + Drop> Port<T, S> {
     {
         let mut port = Port::over(end);
         let cells = port.cells() as u64;
+        let pages = port.pages();
         let sent = Room {
             packets,
-            words: 384 * packets,
+            words: 384 * packets + words_of_pages(pages, packets),
         };
         let got = Room {
-            packets: packets + 1,
-            words: 384 * packets + cells,
+            packets: packets + 1 + places_of_pages(pages, packets + 1),
+            words: 384 * packets + (cells + words_of_pages(pages, packets + 1)),
         };
         match port.reserve(sent, got) {
             Ok(()) => Ok(port),
@@ -117,7 +123,8 @@ impl<T: Protocol, S: Parks + Drop> Port<T, S> {
         ensures got { got_of self.now.state.past ≡ self.now.state.got }
     {
         let room = self.end.spare_got();
-        if room.packets == 0 || room.words < self.end.cells() as u64 {
+        let words = self.end.cells() as u64 + words_of_pages(self.end.pages(), 1);
+        if room.packets == 0 || room.words < words {
             return Some(room);
         }
         None
@@ -130,7 +137,8 @@ impl<T: Protocol, S: Parks + Drop> Port<T, S> {
         ensures got { got_of self.now.state.past ≡ self.now.state.got }
     {
         let room = self.end.spare_sent();
-        if room.packets == 0 || room.words < packet.len() as u64 {
+        let words = packet.len() as u64 + words_of_pages(self.end.pages(), 1);
+        if room.packets == 0 || room.words < words {
             return Some(room);
         }
         None
@@ -154,6 +162,13 @@ impl<T: Protocol, S: Parks + Drop> Port<T, S> {
         self.end.cells()
     }
 
+    // The channel's data pages.
+    fn pages(&self) -> u32
+        ensures { result ≡ self.now.end.state.pages.count }
+    {
+        self.end.pages()
+    }
+
     /// Whether it sleeps until its signal is up.
     pub fn is_asleep(&self) -> bool
         ensures { result ≡ self.now.state.machine.asleep }
@@ -171,7 +186,8 @@ impl<T: Protocol, S: Parks + Drop> Port<T, S> {
     /// The i-th packet that was got.
     pub fn got(&self, i: usize) -> &[u64]
         requires { i < length self.now.state.got }
-        ensures value { slice_get self.now.state.got i ≡ Some (T.said (item_of result.now [])) }
+        ensures value { slice_get self.now.state.got i ≡ Some (T.said (item_of result.now (words_at self.now.end.state.pages.got i))) }
+        ensures bare { self.now.end.state.pages.count ≡ 0 → slice_get self.now.state.got i ≡ Some (T.said (item_of result.now [])) }
         ensures packet { IsPacket result.now }
     {
         match self.end.got().get(i) {
@@ -180,25 +196,48 @@ impl<T: Protocol, S: Parks + Drop> Port<T, S> {
         }
     }
 
+    /// The page words that came with the i-th packet that was got.
+    pub fn words(&self, i: usize) -> &[u64]
+        requires { i < length self.now.state.got }
+        ensures value { result.now ≡ words_at self.now.end.state.pages.got i }
+        ensures few { length result.now ≤ 512 }
+    {
+        match self.end.got().lent(i) {
+            Some(words) => words,
+            None => unreachable!(),
+        }
+    }
+
     /// The packet that was got last, where one was.
     pub fn last(&self) -> &[u64]
         requires { 0 < length self.now.state.got }
-        ensures value { (before : List Item) (p : Item) → self.now.state.got ≡ before ++ p ∷ [] → T.said (item_of result.now []) ≡ p }
+        ensures value { (before : List Item) (p : Item) → self.now.state.got ≡ before ++ p ∷ [] → T.said (item_of result.now (words_at self.now.end.state.pages.got (length self.now.state.got - 1))) ≡ p }
+        ensures bare { self.now.end.state.pages.count ≡ 0 → (before : List Item) (p : Item) → self.now.state.got ≡ before ++ p ∷ [] → T.said (item_of result.now []) ≡ p }
         ensures packet { IsPacket result.now }
     {
         self.got(self.got_len() - 1)
     }
 
-    /// Sends a packet, if the ring has room for it. The signal is raised where the peer waits for it. Where the peer's read index is in no form the end is broken,
-    /// which can't be where the seat tells its end's state.
+    /// The page words that came with it.
+    pub fn last_words(&self) -> &[u64]
+        requires { 0 < length self.now.state.got }
+        ensures value { result.now ≡ words_at self.now.end.state.pages.got (length self.now.state.got - 1) }
+        ensures few { length result.now ≤ 512 }
+    {
+        self.words(self.got_len() - 1)
+    }
+
+    /// Sends a packet, if the ring has room for it, behind a store of these page words into the part of a page that goes along with it. The signal is raised where
+    /// the peer waits for it. Where the peer's read index is in no form the end is broken, which can't be where the seat tells its end's state.
     pub fn send(&mut self, packet: &[u64], words: &[u64]) -> Tried
         requires ready { IsReady self.old }
         requires packet { IsPacket packet.now }
         requires most { length packet.now ≤ 384 }
-        requires words { words.now ≡ [] }
+        requires lays { CanLay self.old.end packet.now words.now }
         requires room { HasSendRoom packet.now self.old }
         ensures past { self.new.state.past ≡ past_tried result (T.said (item_sent self.old packet.now words.now)) self.old.state.past }
-        ensures lays { Lays packet.now words.now 0 (item_sent self.old packet.now words.now) }
+        ensures lays { Lays packet.now words.now (along self.old.end.state.pages packet.now) (item_sent self.old packet.now words.now) }
+        ensures bare { self.old.end.state.pages.count ≡ 0 → item_sent self.old packet.now words.now ≡ item_of packet.now [] }
         ensures tries { Tries result self.new }
         ensures honest { is_some (S.told self.old.seat) ≡ true → result ≢ BrokenTry }
         ensures stays { Stays S.channel S.told self.old self.new }
@@ -206,19 +245,22 @@ impl<T: Protocol, S: Parks + Drop> Port<T, S> {
         ensures unmarked { has_marked self.old.state.past ≡ false }
         ensures unsent { result ≢ SentTry → self.new.spare_sent ≡ self.old.spare_sent }
         ensures found { result ≡ FullTry → (self.new.state.machine.room ≤ length packet.now + 1) × (self.new.state.machine.words ≡ length packet.now) }
-        ensures tried { TriedOnce S.told S.memory packet.now self.old.end self.new.end }
+        ensures laid { (l : Seen S) × LaidOnce S.told S.memory packet.now words.now self.old.end l × TriedOnce S.told S.memory packet.now l self.new.end }
+        ensures tried { words.now ≡ [] → TriedOnce S.told S.memory packet.now self.old.end self.new.end }
         ensures full { result ≡ FullTry → self.new.end.state.machine.ended ≡ EndedFull }
         ensures into { SentInto (length packet.now) self.old self.new }
     {
-        let _none = words;
-        tried_by(self.end.send(packet))
+        lay_all(&mut self.end, packet, words);
+        let tried = tried_by(self.end.send(packet));
+        self.end.items_fit();
+        tried
     }
 
-    /// Takes the first packet that waits, if one does, and gives its cells back. Where what it loads is no packet the end is broken, which can't be where the
-    /// seat tells its end's state.
+    /// Takes the first packet that waits, if one does, with all its page words, and gives its cells back. Where what it loads is no packet the end is broken, which
+    /// can't be where the seat tells its end's state.
     pub fn take(&mut self) -> Found
         requires ready { IsReady self.old }
-        requires room { (0 < self.old.spare_got.packets) × (self.old.state.machine.cells ≤ self.old.spare_got.words) }
+        requires room { HasTakeRoom self.old }
         ensures list { got_of self.old.state.past ≡ self.old.state.got }
         ensures took { TookOne result self.old.state self.new.state }
         ensures finds { Finds result self.new }
@@ -231,15 +273,19 @@ impl<T: Protocol, S: Parks + Drop> Port<T, S> {
     {
         let found = found_by(self.end.take_in());
         if !has_packet(found) {
+            self.end.items_fit();
             return found;
         }
+        self.end.stands_inside();
+        load_all(&mut self.end);
+        self.end.items_fit();
         self.end.commit();
         found
     }
 
     /// Arms the signal, and looks once more for packets, for the room in bytes that is wanted, and for the peer's mark. Where it finds none of these the end
     /// is asleep.
-    #[tactic(auto, using(crate::proofs::PortLaws::arm_ended))]
+    #[tactic(auto, using(crate::proofs::PortLaws::arm_ended, crate::proofs::PortLaws::quiet_items))]
     pub fn arm(&mut self, want: Option<u32>) -> ArmResult
         requires ready { IsReady self.old }
         requires want { IsNeed want }
@@ -259,7 +305,7 @@ impl<T: Protocol, S: Parks + Drop> Port<T, S> {
     }
 
     /// Takes the signal of an end that is asleep, if it is up: then the end is awake.
-    #[tactic(auto, using(crate::proofs::PortLaws::poll_ended))]
+    #[tactic(auto, using(crate::proofs::PortLaws::poll_ended, crate::proofs::PortLaws::quiet_items))]
     pub fn poll(&mut self) -> bool
         requires asleep { self.old.state.machine.asleep ≡ true }
         requires unmarked { self.old.state.machine.marked ≡ false }
@@ -289,6 +335,7 @@ impl<T: Protocol, S: Parks + Drop> Port<T, S> {
     }
 
     /// Says that this end sends nothing more.
+    #[tactic(auto, using(crate::proofs::PortLaws::quiet_items))]
     pub fn mark(&mut self)
         requires ready { IsReady self.old }
         ensures past { self.new.state.past ≡ Marked ∷ self.old.state.past }

@@ -26,7 +26,7 @@ use Rattle.channel_model.proofs.Acking.{acks_whole, acks_new, acks_came, acks_ga
 use Rattle.channel_model.proofs.Amounts.{asks_at_most, kinds_asked, kinds_acked}
 use Rattle.channel_model.proofs.Opens.{by_test}
 use Rattle.channel_model.proofs.Asking.{since_more, under_more, asker_accepted, asker_sent, asker_told, asker_answered, asker_stray, asker_came, asker_acked, asker_breaks, asker_open, asker_empty, asker_marked, asker_saw, asker_settled, asker_stopped}
-use Rattle.worker_port.specs.Line.{Line, SleepsFor}
+use Rattle.worker_port.specs.Line.{Line, SleepsFor, page_words}
 use Rattle.worker_requester.specs.Asking.{AckFull, Asking, AskLacks, AskedFrom, EndTried, EndsAcked, EverTried, GoesFree, IsAsking, IsPaced, LeavesAcks, LeavesTried, AsksAll, Holds, HoldTried, RestsTried, HasSettled, AskerLacks, LacksNext, id_in, answer_of, ask_at, asked_in, waits_in, waits_under, want_by, pending, AsksOn, AsksBy}
 use Rattle.worker_requester.specs.declared.requester.Blocked.{Blocked}
 use Rattle.worker_requester.specs.declared.requester.Blocked.TheVariants.{Done, Place, Answer, Ack, Room}
@@ -255,6 +255,10 @@ module _ {T S A Q R : Type 0} (s : WireFormat Item A Q R) (keeps : Keeps s) (ask
     alone = λ id e few. ap (open_of s asks) is ∙ h.alone id e few;
     from = subst (AskedFrom s (length w.table) asks) (sym is) h.from;
   }
+
+  -- a try that sent nothing
+  pub tried_kept : (end' : Line S) → end'.state.past ≡ w.end.state.past → end'.state.got ≡ w.end.state.got → end'.state.machine.asleep ≡ false → IsAsking s asks w → IsAsking s asks (record w { end = end' })
+  tried_kept end' is got awake h = still_kept end' w.hold is got (λ asleep. absurd (let bad : true ≡ false = sym asleep ∙ awake in cc)) h
 
   -- an answer was taken: the packet that came just before it is read with it, where that was none
   pub took_kept : (end' : Line S) (table' : List (Option ℕ)) (told' : List R) (p : Item) → s.is_answer p ≡ true → got_of w.end.state.past ≡ w.end.state.got → end'.state.past ≡ Got p ∷ w.end.state.past
@@ -535,14 +539,14 @@ module _ {T S A Q R : Type 0} (s : WireFormat Item A Q R) (keeps : Keeps s) (ask
   }
 
   -- why nothing is sent doesn't lie with the end
-  pub holds_on : (end' : Line S) (hold hold' : Blocked) → end'.state.got ≡ w.end.state.got → end'.spare_sent ≡ w.end.spare_sent → Holds s asks hold w → Holds s asks hold (record w { end = end'; hold = hold' })
-  holds_on end' Done hold' got spare h = rw got h
-  holds_on end' Place hold' got spare h = rw got h
-  holds_on end' Answer hold' got spare h = rw got h
-  holds_on end' (Ack need) hold' got spare h =
-      (h.0, ap (λ l. slice_get l w.acked) got ∙ h.1, h.2, h.3, h.4, h.5, subst (λ (r : SpareRoom). (0 < r.packets) × (length (s.ack h.0).packet ≤ r.words)) (sym spare) h.6)
-  holds_on end' (Room need) hold' got spare h =
-      (h.0, h.1, h.2, h.3, h.4, h.5, h.6 ∙ ap length (sym got), subst (λ (r : SpareRoom). (0 < r.packets) × (length (s.encode (id_in w.waiting) h.0).packet ≤ r.words)) (sym spare) h.7)
+  pub holds_on : (end' : Line S) (hold hold' : Blocked) → end'.state.got ≡ w.end.state.got → end'.spare_sent ≡ w.end.spare_sent → end'.end.state.pages.count ≡ w.end.end.state.pages.count → Holds s asks hold w → Holds s asks hold (record w { end = end'; hold = hold' })
+  holds_on end' Done hold' got spare pages h = rw got h
+  holds_on end' Place hold' got spare pages h = rw got h
+  holds_on end' Answer hold' got spare pages h = rw got h
+  holds_on end' (Ack need) hold' got spare pages h =
+      (h.0, ap (λ l. slice_get l w.acked) got ∙ h.1, h.2, h.3, h.4, h.5, subst (λ (r : SpareRoom × ℕ). (0 < r.0.packets) × (length (s.ack h.0).packet + page_words r.1 1 ≤ r.0.words)) (λ i. (sym spare i, sym pages i)) h.6)
+  holds_on end' (Room need) hold' got spare pages h =
+      (h.0, h.1, h.2, h.3, h.4, h.5, h.6 ∙ ap length (sym got), subst (λ (r : SpareRoom × ℕ). (0 < r.0.packets) × (length (s.encode (id_in w.waiting) h.0).packet + page_words r.1 1 ≤ r.0.words)) (λ i. (sym spare i, sym pages i)) h.7)
 
   pub need_in : (hold : Blocked) → Holds s asks hold w → IsNeed (want_by hold)
   need_in Done h = tt
@@ -647,7 +651,7 @@ module _ {T S A Q R : Type 0} (s : WireFormat Item A Q R) (besides : Bool) (asks
   ends_acked EndBroken h = tt
 
 pub ask_trans : {T S R C : Type 0} (channel : S → C) (told_by : S → Option Told) (u v w : Asking T S R) → AsksOn channel told_by u v → AsksOn channel told_by v w → AsksOn channel told_by u w
-ask_trans channel told_by u v w a b = record { tells = b.tells ∙ a.tells; protocol = b.protocol ∙ a.protocol; relid = b.relid ∙ a.relid; starts = b.starts ∙ a.starts; window = b.window ∙ a.window; end = record { seat = b.end.seat ∙ a.end.seat; side = b.end.side ∙ a.end.side } }
+ask_trans channel told_by u v w a b = record { tells = b.tells ∙ a.tells; protocol = b.protocol ∙ a.protocol; relid = b.relid ∙ a.relid; starts = b.starts ∙ a.starts; window = b.window ∙ a.window; end = record { seat = b.end.seat ∙ a.end.seat; side = b.end.side ∙ a.end.side; pages = b.end.pages ∙ a.end.pages } }
 
 -- a worker that ended in a turn had tried what it let go
 pub ever_tried : {T S A Q R C : Type 0} (channel : S → C) (told : S → Option Told) (memory : S → Option Memory) (sp : T → WireFormat Item A Q R) (how : Ended) (u v w : Asking T S R) → AsksOn channel told u v → AsksOn channel told v w

@@ -15,7 +15,8 @@ pub(crate) fn came_before<'a, T: Protocol, S: Parks + Drop>(
     protocol: &T,
     port: &'a Port<T, S>,
 ) -> &'a [u64]
-    requires { 0 < length port.now.state.got }
+    requires pages { port.now.end.state.pages.count ≡ 0 }
+    requires some { 0 < length port.now.state.got }
     ensures value { (before : List Item) (p : Item) → port.now.state.got ≡ before ++ p ∷ [] → item_in T.said result.now [] ≡ since (T.format protocol.now) None before }
     ensures packet { result.now ≡ [] ⊎ IsPacket result.now }
 {

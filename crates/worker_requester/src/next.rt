@@ -1,5 +1,5 @@
 //! Which message is acknowledged next.
-ghost use Rattle.std.specs.Prelude.{◌≤◌, length};
+ghost use Rattle.std.specs.Prelude.{◌≡◌, ◌≤◌, length};
 ghost use Rattle.worker_requester.specs.Acking.{IsNext};
 
 use channel_protocol::Protocol;
@@ -12,7 +12,8 @@ pub(crate) fn next_message<T: Protocol, S: Parks + Drop>(
     port: &Port<T, S>,
     from: usize,
 ) -> usize
-    requires { from ≤ length port.now.state.got }
+    requires pages { port.now.end.state.pages.count ≡ 0 }
+    requires from { from ≤ length port.now.state.got }
     ensures { IsNext (T.format protocol.now) port.now.state.got from result }
 {
     let count = port.got_len();

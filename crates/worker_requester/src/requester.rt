@@ -89,7 +89,7 @@ impl<T: Protocol, S: Parks> Model for Requester<T, S> {
 
     ghost view = { λ w. record { protocol = w.protocol; end = w.port; table = w.table; next = w.next; waiting = w.waiting; acked = w.acked; told = w.replies.items; starts = w.starts; seen = w.seen; hold = w.hold; relid = w.relid } };
 
-    ghost invariant = { λ w. w.port.state.machine.marked ≡ false → record { bare : T.lends w.protocol ≡ false; live : IsAsking (T.format w.protocol) (T.asks w.protocol) (record { protocol = w.protocol; end = w.port; table = w.table; next = w.next; waiting = w.waiting; acked = w.acked; told = w.replies.items; starts = w.starts; seen = w.seen; hold = w.hold; relid = w.relid }); replies : vec_len w.replies + count_by is_some w.table + (length (T.asks w.protocol) - w.next) ≤ vec_capacity w.replies + pending w.waiting; spare : vec_len w.rescinded + length w.table ≤ vec_capacity w.rescinded; size : length w.table ≤ 64; room : KeepsRoom (room_of (T.besides w.protocol) (length (T.asks w.protocol))) w.port; side : w.side ≡ w.port.state.machine.side } };
+    ghost invariant = { λ w. w.port.state.machine.marked ≡ false → record { bare : T.lends w.protocol ≡ false; pages : w.port.end.state.pages.count ≡ 0; live : IsAsking (T.format w.protocol) (T.asks w.protocol) (record { protocol = w.protocol; end = w.port; table = w.table; next = w.next; waiting = w.waiting; acked = w.acked; told = w.replies.items; starts = w.starts; seen = w.seen; hold = w.hold; relid = w.relid }); replies : vec_len w.replies + count_by is_some w.table + (length (T.asks w.protocol) - w.next) ≤ vec_capacity w.replies + pending w.waiting; spare : vec_len w.rescinded + length w.table ≤ vec_capacity w.rescinded; size : length w.table ≤ 64; room : KeepsRoom (room_of (T.besides w.protocol) (length (T.asks w.protocol))) w.port; side : w.side ≡ w.port.state.machine.side } };
 }
 
 /// What an asking worker gives once it has ended.
@@ -609,6 +609,7 @@ impl<T: Protocol, S: Parks + Drop> Requester<T, S> {
         requires fresh { (port.state.past ≡ []) × (port.state.got ≡ []) × (port.state.machine.asleep ≡ false) }
         requires side { side ≡ port.state.machine.side }
         requires bare { T.lends protocol ≡ false }
+        requires pages { port.end.state.pages.count ≡ 0 }
         requires room { KeepsRoom (room_of (T.besides protocol) (length (T.asks protocol))) port }
         requires window { (window : ℕ) × (window ≤ 64) × (lists.table ≡ replicate window None) }
         requires none { lists.replies.items ≡ [] }

@@ -28,7 +28,7 @@ use Rattle.channel_model.proofs.Amounts.{own_none}
 use Rattle.channel_model.proofs.Opens.{by_test, filter_yes, filter_no}
 use Rattle.channel_model.proofs.Counts.{calls_left}
 use Rattle.channel_model.proofs.Serving.{server_took, server_served, server_passed, server_gave, server_quiet, server_new, server_ends, server_follows, server_breaks}
-use Rattle.worker_port.specs.Line.{Line, SleepsFor}
+use Rattle.worker_port.specs.Line.{Line, SleepsFor, page_words}
 use Rattle.ring_core.specs.declared.room.Room.{Room as Spare}
 use Rattle.worker_port.specs.Owed.{is_nil, need_of, MetFull}
 use Rattle.worker_port.specs.Tries.{FoundFull, FoundNone, FoundNothing, MarkedOnce}
@@ -62,12 +62,12 @@ first_words [] = []
 first_words (p ∷ ps) = p.packet
 
 -- the list of what was sent has room for what is owed as long as neither changes
-pub room_still : {E : Type 0} (owed : List Item) (old new : Line E) → new.spare_sent ≡ old.spare_sent → HasRoomFor owed old → HasRoomFor owed new
-room_still [] old new same room = tt
-room_still (p ∷ ps) old new same room = subst (λ (r : Spare). (0 < r.packets) × (length p.packet ≤ r.words)) (sym same) room
+pub room_still : {E : Type 0} (owed : List Item) (old new : Line E) → new.end.state.pages.count ≡ old.end.state.pages.count → new.spare_sent ≡ old.spare_sent → HasRoomFor owed old → HasRoomFor owed new
+room_still [] old new pages same room = tt
+room_still (p ∷ ps) old new pages same room = subst (λ (r : Spare × ℕ). (0 < r.0.packets) × (length p.packet + page_words r.1 1 ≤ r.0.words)) (λ i. (sym same i, sym pages i)) room
 
-pub room_on : {T S E Q R : Type 0} (old new : Serving T S E Q R) → new.responder ≡ old.responder → new.end.spare_sent ≡ old.end.spare_sent → HasRoomFor old.responder.owed old.end → HasRoomFor new.responder.owed new.end
-room_on old new responder same room = subst (λ d. HasRoomFor d.owed new.end) (sym responder) (room_still old.responder.owed old.end new.end same room)
+pub room_on : {T S E Q R : Type 0} (old new : Serving T S E Q R) → new.responder ≡ old.responder → new.end.end.state.pages.count ≡ old.end.end.state.pages.count → new.end.spare_sent ≡ old.end.spare_sent → HasRoomFor old.responder.owed old.end → HasRoomFor new.responder.owed new.end
+room_on old new responder pages same room = subst (λ d. HasRoomFor d.owed new.end) (sym responder) (room_still old.responder.owed old.end new.end pages same room)
 
 module _ {S : Type 0} (told : S → Option Told) (memory : S → Option Memory) where
   -- nothing that is owed is tried by no call
@@ -510,8 +510,8 @@ module _ {T S E A Q R : Type 0} (s : WireFormat Item A Q R) (keeps : Keeps s) (b
   drains end' is h seen = ap is_drained is ∙ ap (λ b. b || is_drained w.end.state.past) (h.saw ∙ seen)
 
   -- it sleeps
-  pub rests_at : (end' : Line E) (want' : Option ℕ) → want' ≡ need_of w.responder.owed → SleepsFor want' end' → end'.spare_sent ≡ w.end.spare_sent → HasRoomFor w.responder.owed w.end → end'.state.got ≡ w.end.state.got → (is_nil w.responder.owed ≡ true → HasToWait s besides w) → end'.state.past ≡ w.end.state.past → w.seen ≡ false → Rests s besides (record w { end = end'; want = want' })
-  rests_at end' want' want armed spare room got waits is unseen = record { want = want; armed = armed; room = room_still w.responder.owed w.end end' spare room; waits = λ e. still (waits e); unseen = unseen }
+  pub rests_at : (end' : Line E) (want' : Option ℕ) → want' ≡ need_of w.responder.owed → SleepsFor want' end' → end'.end.state.pages.count ≡ w.end.end.state.pages.count → end'.spare_sent ≡ w.end.spare_sent → HasRoomFor w.responder.owed w.end → end'.state.got ≡ w.end.state.got → (is_nil w.responder.owed ≡ true → HasToWait s besides w) → end'.state.past ≡ w.end.state.past → w.seen ≡ false → Rests s besides (record w { end = end'; want = want' })
+  rests_at end' want' want armed pages spare room got waits is unseen = record { want = want; armed = armed; room = room_still w.responder.owed w.end end' pages spare room; waits = λ e. still (waits e); unseen = unseen }
     where
       still : HasToWait s besides w → HasToWait s besides (record w { end = end'; want = want' })
       still (inl (all, more)) = inl (all ∙ ap length (sym got), more)
@@ -605,13 +605,13 @@ module _ {T S E Q R C : Type 0} (same : S → S → Type 0) (channel : E → C) 
     starts = b.starts ∙ a.starts;
     come = b.come ∙ a.come;
     before = b.before ∙ a.before;
-    end = record { seat = b.end.seat ∙ a.end.seat; side = b.end.side ∙ a.end.side };
+    end = record { seat = b.end.seat ∙ a.end.seat; side = b.end.side ∙ a.end.side; pages = b.end.pages ∙ a.end.pages };
     tells = b.tells ∙ a.tells;
     seat = trans u.responder.seat v.responder.seat w.responder.seat a.seat b.seat;
   }
 
   pub on_refl : ((a : S) → same a a) → (w : Serving T S E Q R) → ServesOn same channel told w w
-  on_refl r w = record { protocol = refl; relid = refl; held = refl; serve = refl; stops = refl; starts = refl; come = refl; before = refl; end = record { seat = refl; side = refl }; tells = refl; seat = r w.responder.seat }
+  on_refl r w = record { protocol = refl; relid = refl; held = refl; serve = refl; stops = refl; starts = refl; come = refl; before = refl; end = record { seat = refl; side = refl; pages = refl }; tells = refl; seat = r w.responder.seat }
 
   orders_on : {A : Type 0} (s : WireFormat Item A Q R) (plan : RequestPlan A) (u w : Serving T S E Q R) → ServesOn same channel told u w → Orders s plan u → Orders s plan w
   orders_on s plan u w on is = record { serve = on.serve ∙ is.serve; held = on.held ∙ is.held; stops = on.stops ∙ is.stops; starts = on.starts ∙ is.starts }

@@ -51,7 +51,7 @@ impl<T: Protocol, S: Device<T>, E: Parks> Model for Server<T, S, E> {
 
     ghost view = { λ w. record { responder = w.responder; end = w.port; serve = w.serve; stops = w.stops; starts = w.starts; come = w.come; missing = w.missing; served = w.served; seen = w.seen; want = w.want } };
 
-    ghost invariant = { λ w. record { live : IsServing (T.format w.responder.protocol) (T.besides w.responder.protocol) (record { responder = w.responder; end = w.port; serve = w.serve; stops = w.stops; starts = w.starts; come = w.come; missing = w.missing; served = w.served; seen = w.seen; want = w.want }); room : KeepsRoom (room_of (T.besides w.responder.protocol) (w.starts + w.come)) w.port; side : w.responder.side ≡ w.port.state.machine.side } };
+    ghost invariant = { λ w. record { live : IsServing (T.format w.responder.protocol) (T.besides w.responder.protocol) (record { responder = w.responder; end = w.port; serve = w.serve; stops = w.stops; starts = w.starts; come = w.come; missing = w.missing; served = w.served; seen = w.seen; want = w.want }); room : KeepsRoom (room_of (T.besides w.responder.protocol) (w.starts + w.come)) w.port; pages : w.port.end.state.pages.count ≡ 0; side : w.responder.side ≡ w.port.state.machine.side } };
 }
 
 /// What a serving worker gives once it has ended.

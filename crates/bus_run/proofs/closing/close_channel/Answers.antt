@@ -1,8 +1,12 @@
 use Rattle.std.proofs.Common.{◌≡◌, ◌∙◌, ◌∷◌, ◌++◌, [], ap, sym, subst, get_or, Some}
 use Rattle.bus_threads.specs.Pairs.{RanPair}
 use Rattle.ring_pair_laws.specs.Lists.{Lists}
+use Rattle.device_any.specs.Boxes.{kind_in}
+use Rattle.device_any.specs.Seats.{kind_at}
 use Rattle.bus_run.specs.Closing.{ChannelEnded}
-use Rattle.bus_run.proofs.Closed.{same_kind}
+use Rattle.bus_run.proofs.Opened.{still_open}
+use Rattle.device_any.proofs.SeatLaws.{same_kind}
+use Rattle.device_any.proofs.Uniting.{is_opened, kind_opened}
 use Rattle.bus_run.proofs.closing.close_channel.Goals as goal
 
 pub end_channel-lists-requires : goal.end_channel-lists-requires
@@ -11,12 +15,21 @@ end_channel-lists-requires c =
     let same : w.2 ≡ c.in-Some.done = ap (λ l. get_or l 0 w.2) (sym w.6 ∙ c.in-Some.ensures.items) in
     (w.0, w.1, w.4, subst (RanPair w.0 w.1) same w.7)
 
-pub give_back-requires : goal.give_back-requires
-give_back-requires c =
+pub give_back-requires-clause-kind : goal.give_back-requires-clause-kind
+give_back-requires-clause-kind c =
     let w = c.requires in
     let same : w.2 ≡ c.in-Some.done = ap (λ l. get_or l 0 w.2) (sym w.6 ∙ c.in-Some.ensures.items) in
     let ended = c.end_channel-lists.ensures.ended w.0 w.1 w.4 (subst (RanPair w.0 w.1) same w.7) in
-    w.5 ∙ ap (λ k. Some k) (sym (same_kind w.1 c.end_channel-lists.result.1 ended.same))
+    let kind : kind_in c.args.own.now ≡ Some (kind_at c.end_channel-lists.result.1) = w.5 ∙ ap (λ k. Some k) (sym (same_kind w.1 c.end_channel-lists.result.1 ended.same)) in
+    kind_opened c.args.own.now (kind_at c.end_channel-lists.result.1) kind
+
+pub give_back-requires-clause-open : goal.give_back-requires-clause-open
+give_back-requires-clause-open c =
+    let w = c.requires in
+    let same : w.2 ≡ c.in-Some.done = ap (λ l. get_or l 0 w.2) (sym w.6 ∙ c.in-Some.ensures.items) in
+    let ended = c.end_channel-lists.ensures.ended w.0 w.1 w.4 (subst (RanPair w.0 w.1) same w.7) in
+    let kind : kind_in c.args.own.now ≡ Some (kind_at c.end_channel-lists.result.1) = w.5 ∙ ap (λ k. Some k) (sym (same_kind w.1 c.end_channel-lists.result.1 ended.same)) in
+    is_opened c.args.own.now (kind_at c.end_channel-lists.result.1) kind
 
 pub returns-clause-closed : goal.returns-clause-closed
 returns-clause-closed c order first done rest many are ran =
@@ -26,7 +39,7 @@ returns-clause-closed c order first done rest many are ran =
       back = c.end_channel-lists.result.1;
       ended = subst (λ (l : Lists). ChannelEnded order first l c.end_channel-lists.result.1 c.end_channel-lists.result.2) (sym c.trim.ensures) (c.end_channel-lists.ensures.ended order first many (subst (RanPair order first) same ran));
       seats = c.in_ok-give_back.ensures.seats;
-      kind = c.in_ok-give_back.ensures.kind;
+      still = still_open c.args.own.now c.give_back.new.self (kind_at c.requires.1) c.requires.5 c.in_ok-give_back.ensures.kind c.in_ok-give_back.ensures.subs;
       settled_are = c.in_ok-push.ensures.items;
     }
 

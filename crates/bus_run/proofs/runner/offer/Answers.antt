@@ -7,9 +7,9 @@ use Rattle.bus_run.proofs.runner.offer.Goals as goal
 pub returns-in_ok-push-in-Offer : goal.returns-in_ok-push-in-Offer
 returns-in_ok-push-in-Offer c kinds fresh =
     let lines = c.args.lines.now in
-    let slots = c.args.slots.now.items in
+    let boxes = c.args.boxes.now.items in
     let spec = c.in-Offer.device in
-    let long : c.len.result ≡ length slots = omega (arith, c.len.ensures, c.args.slots.now.ok.0) in
-    let bad : c.deref.result.now ≡ bads_of (length slots) lines = c.deref.ensures.value ∙ c.in_ok-bad-in-Offer.ensures ∙ ap (λ n. bads_of n lines) long in
+    let long : c.len.result ≡ length boxes = omega (arith, c.len.ensures, c.args.boxes.now.ok.0) in
+    let bad : c.deref.result.now ≡ bads_of (length boxes) lines = c.deref.ensures.value ∙ c.in_ok-bad-in-Offer.ensures ∙ ap (λ n. bads_of n lines) long in
     subst (λ w. AreFresh lines (kinds ++ offered_by w) c.push.new.self.items) (sym c.in-Offer.is)
-    (fresh_more lines kinds slots c.push.new.self.items spec c.deref.result.now c.in_ok-new_slot-in-Offer.field-0 fresh bad c.in_ok-new_slot-in-Offer.ensures c.in_ok-push-in-Offer.ensures.items)
+    (fresh_more lines kinds boxes c.push.new.self.items spec c.deref.result.now c.in_ok-make-in-Offer.field-0 fresh bad c.in_ok-make-in-Offer.ensures c.in_ok-push-in-Offer.ensures.items)

@@ -51,3 +51,12 @@ returns-clause-host_answers c = (refl, refl)
 
 pub returns-clause-vps : goal.returns-clause-vps
 returns-clause-vps c = (refl, refl)
+
+pub returns-clause-guest_dials : goal.returns-clause-guest_dials
+returns-clause-guest_dials c port = refl
+
+pub returns-clause-host_offers : goal.returns-clause-host_offers
+returns-clause-host_offers c port = refl
+
+pub returns-clause-sock_state : goal.returns-clause-sock_state
+returns-clause-sock_state c port = refl

@@ -9,5 +9,8 @@ line_at-requires c = (is_line c.args.bytes.now c.args.fault c.requires.fault).0
 pub unreachable-requires : goal.unreachable-requires
 unreachable-requires c = omega (arith, (is_line c.args.bytes.now c.args.fault c.requires.fault).1, c.in_default.ensures)
 
+pub push_help-requires : goal.push_help-requires
+push_help-requires c = (is_line c.args.bytes.now c.args.fault c.requires.fault).0
+
 pub returns : goal.returns
-returns c = tells_lem c.mark_at.result.at c.mark_at.result.len c.in_ok-push_help.ensures.0 c.in-Some.ensures c.mark_at.ensures (c.in_ok-push_head.ensures ∙ ap (λ t. t ++ head_text c.args.fault c.in-Some.line.now) c.requires.empty) c.in_ok-push_mark.ensures c.in_ok-push_help.ensures.1
+returns c = tells_lem c.in-Some.ensures (c.in_ok-push_head.ensures ∙ ap (λ t. t ++ head_text c.args.fault c.in-Some.line.now) c.requires.empty) c.mark_at.ensures c.in_ok-push_mark.ensures c.in_ok-push_help.ensures

@@ -1,6 +1,6 @@
 use Rattle.std.proofs.Common.{◌∙◌, List, ap, sym, subst, length, arith, Some}
 use Rattle.bus_model.specs.declared.channel_run.ChannelRun.{ChannelRun}
-use Rattle.bus_model.specs.declared.history.DeviceHistory.{DeviceHistory}
+use Rattle.device_kinds.specs.declared.history.DeviceHistory.{DeviceHistory}
 use Rattle.bus_script.specs.declared.outcome.LineResult.{LineResult}
 use Rattle.std.proofs.lemmas.List.Sums.{count_by-le-length}
 use Rattle.script_lines.specs.WellFormed.{IsScript}

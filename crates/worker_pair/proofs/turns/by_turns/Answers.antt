@@ -2,7 +2,7 @@ use Rattle.std.proofs.Common.{◌≡◌, ◌∙◌, Some}
 use Rattle.ring_seat.specs.Seats.{told_in}
 use Rattle.ring_seat.specs.declared.table_seat.TableSeat.{TableSeat}
 use Rattle.worker_server.proofs.ServeSteps.{on_trans}
-use Rattle.worker_pair.specs.Seats.{device_place}
+use Rattle.device_any.specs.Seats.{device_place}
 use Rattle.worker_pair.proofs.Going.{asked_on, served_on}
 use Rattle.worker_pair.proofs.turns.by_turns.Goals as goal
 

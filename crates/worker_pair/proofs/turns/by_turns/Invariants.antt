@@ -3,7 +3,7 @@ use Rattle.ring_seat.specs.Seats.{told_in}
 use Rattle.ring_seat.specs.declared.table_seat.TableSeat.{TableSeat}
 use Rattle.worker_requester.specs.Asking.{AsksOn}
 use Rattle.worker_server.specs.Serving.{ServesOn}
-use Rattle.worker_pair.specs.Seats.{device_place}
+use Rattle.device_any.specs.Seats.{device_place}
 use Rattle.worker_pair.specs.Leaving.{StandsAsking, StandsServing}
 use Rattle.worker_pair.proofs.turns.by_turns.Given as goal
 

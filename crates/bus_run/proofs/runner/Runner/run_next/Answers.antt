@@ -6,7 +6,7 @@ use Rattle.std.proofs.lemmas.List.{with_items_is, places}
 use Rattle.script_lines.specs.Parts.{parts, offered, asks_in, channels_of}
 use Rattle.script_lines.specs.WellFormed.{AllRight, AllGo}
 use Rattle.bus_plan.specs.Endings.{AreEnded}
-use Rattle.bus_run.specs.DeviceSlot.{spec_of}
+use Rattle.device_any.specs.Boxes.{spec_of}
 use Rattle.bus_run.specs.Opened.{HaveWorked}
 use Rattle.bus_run.specs.Settings.{HasLimits}
 use Rattle.bus_run.specs.Whole.{IsThis, specs_of, parts_left, behind}
@@ -22,8 +22,8 @@ run_script_phase-requires-clause-right g c κs asked =
     let lines = c.args.script.now in
     let front = c.first_part-next.ensures.front in
     let rest = c.split_at.ensures.back ∙ ap (drop c.in-Some.at) c.lines.ensures.lines in
-    subst (AllRight (map spec_of c.args.self.now.slots.items)) (sym (front.1 ∙ ap (take front.0) rest))
-    (right_take (map spec_of c.args.self.now.slots.items) front.0 (drop c.in-Some.at lines) (right_drop (map spec_of c.args.self.now.slots.items) c.in-Some.at lines
+    subst (AllRight (map spec_of c.args.self.now.boxes.items)) (sym (front.1 ∙ ap (take front.0) rest))
+    (right_take (map spec_of c.args.self.now.boxes.items) front.0 (drop c.in-Some.at lines) (right_drop (map spec_of c.args.self.now.boxes.items) c.in-Some.at lines
     (subst (λ k. AllRight k lines) (sym c.requires.so_far.kinds) c.lines.ensures.script.right)))
 
 pub run_script_phase-requires-clause-go : goal.run_script_phase-requires-clause-go
@@ -55,11 +55,11 @@ run_script_phase-requires-clause-this g c κs asked =
     let cut = part_next lines part at next (subst (λ l. MatchOption next (parts l ≡ part ∷ []) (λ n. parts l ≡ part ∷ parts (drop n l))) rest c.first_part-next.ensures.parts) in
     let left = sym cut ∙ (ap (parts_left lines) (sym c.in-Some.is) ∙ c.requires.so_far.left) in
     let p = the_phase lines old.phase in
-    (p, subst (λ e. IsThis old.version.0 old.phase part e (specs_of old.slots.items) old.relid p) (sym c.deref_mut.ensures.value) (next_phase lines old part (parts_left lines (behind at next)) c.requires.so_far c.lines.ensures.script left))
+    (p, subst (λ e. IsThis old.version.0 old.phase part e (specs_of old.boxes.items) old.relid p) (sym c.deref_mut.ensures.value) (next_phase lines old part (parts_left lines (behind at next)) c.requires.so_far c.lines.ensures.script left))
 
 pub run_script_phase-requires-clause-limits : goal.run_script_phase-requires-clause-limits
 run_script_phase-requires-clause-limits g c κs asked =
-    subst (All HasLimits) (sym c.deref.ensures.value) (have_limits (offered c.args.script.now) c.args.script.now (length c.args.self.now.slots.items) c.args.self.now.settings.items c.lines.ensures.script.right c.requires.so_far.settings)
+    subst (All HasLimits) (sym c.deref.ensures.value) (have_limits (offered c.args.script.now) c.args.script.now (length c.args.self.now.boxes.items) c.args.self.now.settings.items c.lines.ensures.script.right c.requires.so_far.settings)
 
 pub run_script_phase-requires-clause-phase : goal.run_script_phase-requires-clause-phase
 run_script_phase-requires-clause-phase g c κs asked = omega (arith, c.requires.more, (count_parts c.args.script.now).1, c.lines.ensures.script.short)
@@ -94,8 +94,8 @@ returns-clause-so_far g c =
     let whole = with_items_is old.ended c.run_script_phase.new.ended (search (rules, places)) in
     let ran = c.in_ok-run_script_phase.ensures in
     go_on lines part old _ at next c.requires.so_far c.lines.ensures.script c.in-Some.is split within
-    (λ p this. ran.ran p (subst (λ e. IsThis old.version.0 old.phase part e (specs_of old.slots.items) old.relid p) (sym before) this))
-    (λ p this. ran.relid p (subst (λ e. IsThis old.version.0 old.phase part e (specs_of old.slots.items) old.relid p) (sym before) this)) ran.few
+    (λ p this. ran.ran p (subst (λ e. IsThis old.version.0 old.phase part e (specs_of old.boxes.items) old.relid p) (sym before) this))
+    (λ p this. ran.relid p (subst (λ e. IsThis old.version.0 old.phase part e (specs_of old.boxes.items) old.relid p) (sym before) this)) ran.few
     (λ earlier marked. subst (AreEnded (earlier ++ part)) (sym whole) (ran.ended earlier (subst (AreEnded earlier) (sym before) marked)))
     (ap length whole ∙ ran.count ∙ ap length before) ran.ready refl c.behind-self.ensures refl refl
-    (λ p this. subst (λ s. HaveWorked s p old.settled.items c.run_script_phase.new.settled.items old.work.items c.run_script_phase.new.work.items) c.deref.ensures.value (ran.worked p (subst (λ e. IsThis old.version.0 old.phase part e (specs_of old.slots.items) old.relid p) (sym before) this)))
+    (λ p this. subst (λ s. HaveWorked s p old.settled.items c.run_script_phase.new.settled.items old.work.items c.run_script_phase.new.work.items) c.deref.ensures.value (ran.worked p (subst (λ e. IsThis old.version.0 old.phase part e (specs_of old.boxes.items) old.relid p) (sym before) this)))

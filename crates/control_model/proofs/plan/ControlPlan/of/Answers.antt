@@ -1,6 +1,7 @@
 use Rattle.std.proofs.Common.{◌≡◌, ◌∙◌, ◌≤◌, All, List, length, map, sym, ap, subst, arith}
 use Rattle.std.proofs.lemmas.List.{length-map}
 use Rattle.std.specs.List.{range_with_len}
+use Rattle.contact.specs.Classes.{offered_kind}
 use Rattle.script_lines.specs.declared.line.Line.{Line}
 use Rattle.script_lines.specs.declared.line.DeviceSpec.{DeviceSpec}
 use Rattle.script_lines.specs.Parts.{offered, kind_of}
@@ -16,7 +17,7 @@ pub phases-requires-clause-few : goal.phases-requires-clause-few
 phases-requires-clause-few c =
     let lines = c.lines-lines.result.now in
     let n = table_length lines c.as_slice-2.result.now c.len.result (c.as_slice-2.ensures.value ∙ c.in_ok-devices.ensures) in
-    let kinds = ap length c.in_ok-kinds.ensures ∙ length-map (offered lines) kind_of in
+    let kinds = ap length c.in_ok-kinds.ensures ∙ length-map (offered lines) (λ (spec : DeviceSpec). offered_kind (kind_of spec)) in
     let same = ap (λ (ls : List Line). length (offered ls)) c.lines-lines.ensures.lines in
     omega (arith, n, c.lines-lines.ensures.script.few, same, kinds, c.len.ensures, c.in_ok-kinds.kinds.ok)
 
@@ -24,7 +25,7 @@ pub phases-requires-clause-all : goal.phases-requires-clause-all
 phases-requires-clause-all c =
     let lines = c.lines-lines.result.now in
     let n = table_length lines c.as_slice-2.result.now c.len.result (c.as_slice-2.ensures.value ∙ c.in_ok-devices.ensures) in
-    let kinds = ap length c.in_ok-kinds.ensures ∙ length-map (offered lines) kind_of in
+    let kinds = ap length c.in_ok-kinds.ensures ∙ length-map (offered lines) (λ (spec : DeviceSpec). offered_kind (kind_of spec)) in
     let specs = ap length (c.as_slice.ensures.value ∙ c.in_ok-specs.ensures) in
     omega (arith, n, kinds, specs, c.len.ensures, c.in_ok-kinds.kinds.ok)
 

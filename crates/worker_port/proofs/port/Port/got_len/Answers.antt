@@ -4,4 +4,4 @@ use Rattle.worker_port.proofs.ItemLaws.{line_long}
 use Rattle.worker_port.proofs.port.Port.got_len.Goals as goal
 
 pub returns : goal.returns
-returns g c = c.len.ensures ∙ (ap length c.got.ensures.list ∙ (sym (line_long g.T.Protocol.said c.self.inside.end.state c.self.invariant.none.1) ∙ ap (λ (x : Line _). length x.state.got) c.self.view_is))
+returns g c = c.len.ensures ∙ (ap length c.got.ensures.list ∙ (sym (line_long g.T.Protocol.said c.self.inside.end.state) ∙ ap (λ (x : Line _). length x.state.got) c.self.view_is))

@@ -1,5 +1,6 @@
-use Rattle.std.proofs.Common.{◌∙◌, ap, arith}
-use Rattle.worker_port.specs.Line.{Line, LineState}
+use Rattle.std.proofs.Common.{◌≡◌, ◌+◌, ◌∙◌, ap, arith, sym}
+use Rattle.worker_port.specs.Line.{Line, LineState, page_places, page_words}
+use Rattle.worker_port.specs.Rooms.{places_for}
 use Rattle.worker_port.proofs.ItemLaws.{got_new, past_new}
 use Rattle.worker_port.proofs.RoomLaws.{room_new}
 use Rattle.worker_port.proofs.port.Port.with_room.Goals as goal
@@ -11,8 +12,12 @@ returns-in-Ok-clause-room g c =
     let f = c.requires.fresh in
     let r = c.in-Ok.ensures.room in
     let k = c.cells-cells.ensures.value in
-    room_new c.args.packets c.reserve.new.self (ap (λ (s : LineState). s.past) e ∙ past_new said c.args.end.state (ap (λ s. s.past) f)) (ap (λ (s : LineState). s.got) e ∙ got_new said c.args.end.state (ap (λ s. s.got) f) (ap (λ s. s.pages.got) f)) (omega (arith, r.0)) (omega (arith, r.1)) (omega (arith, r.2))
-    (omega (arith, r.3, k, ap (λ (s : LineState). s.machine.cells) c.reserve.ensures.state.1))
+    let n = ap (λ s. s.pages.count) c.reserve.ensures.state.0 in
+    let p = c.pages-pages.ensures in
+    let n' = p ∙ sym n in
+    room_new c.args.packets c.reserve.new.self (ap (λ (s : LineState). s.past) e ∙ past_new said c.args.end.state (ap (λ s. s.past) f)) (ap (λ (s : LineState). s.got) e ∙ got_new said c.args.end.state (ap (λ s. s.got) f) (ap (λ s. s.pages.got) f)) (omega (arith, r.0))
+    (omega (arith, r.1, c.words_of_pages.ensures.value, ap (λ q. page_words q c.args.packets) n')) (omega (arith, r.2, c.places_of_pages.ensures.value, ap (λ q. page_places q (c.args.packets + 1)) n'))
+    (omega (arith, r.3, k, ap (λ (s : LineState). s.machine.cells) c.reserve.ensures.state.1, c.words_of_pages-2.ensures.value, ap (λ q. page_words q (c.args.packets + 1)) n'))
 
 pub returns-in-Ok-clause-new : goal.returns-in-Ok-clause-new
 returns-in-Ok-clause-new g c =

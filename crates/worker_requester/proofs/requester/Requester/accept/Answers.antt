@@ -17,6 +17,7 @@ invariant_of-self g c =
     let answers = subst (λ w. (a : g.row.T-Ask.Denot) → slice_get (g.T.Protocol.asks w.protocol) w.next ≡ Some a → (g.T.Protocol.format w.protocol).has_answer a ≡ true) (sym v) c.requires.answers at.0 at.1 in
     λ _. record {
       bare = l.bare;
+      pages = l.pages;
       live = accepted_kept (g.T.Protocol.format c.self.inside.protocol) (g.T.Protocol.keeps c.self.inside.protocol) (g.T.Protocol.asks c.self.inside.protocol) _ _ c.in-Ok.id at.0 at.1 answers (ap (λ w. w.waiting) v ∙ c.requires.none) ok.0 ok.1 l.size ok.2 (subst (λ w. w.next ≤ w.starts → count_by is_some w.table ≡ 0) (sym v) c.requires.alone) ok.3 (ap (λ w. w.end.state.machine.asleep) v ∙ c.requires.ready.awake) l.live;
       replies = omega (arith, l.replies, ap pending (ap (λ w. w.waiting) v ∙ c.requires.none), ap (count_by is_some) ok.3, count_more c.self.inside.table c.in-Ok.id c.self.inside.next ok.0 ok.1 ok.2);
       spare = omega (arith, l.spare, ap length ok.3, length-set c.self.inside.table (c.in-Ok.id - 1) (Some c.self.inside.next));

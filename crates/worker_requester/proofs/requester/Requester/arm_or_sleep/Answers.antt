@@ -13,6 +13,7 @@ invariant_of-self g c =
     let l = c.self.invariant (ap (λ w. w.end.state.machine.marked) v ∙ c.requires.ready.unmarked) in
     λ _. record {
       bare = l.bare;
+      pages = c.arm.ensures.stays.same.pages ∙ l.pages;
       live = still_kept (g.T.Protocol.format c.self.inside.protocol) (g.T.Protocol.keeps c.self.inside.protocol) (g.T.Protocol.asks c.self.inside.protocol) (record {
         protocol = c.self.inside.protocol;
         end = c.self.inside.port;
@@ -38,14 +39,14 @@ invariant_of-self g c =
           seen = c.self.inside.seen;
           hold = c.self.inside.hold;
           relid = c.self.inside.relid;
-        }) c.arm.new.self c.args.hold c.args.hold c.arm.ensures.lists.0 c.arm.ensures.lists.2 (subst (λ w. Holds (g.T.Protocol.format w.protocol) (g.T.Protocol.asks w.protocol) c.args.hold w) (sym v) c.requires.holds),
+        }) c.arm.new.self c.args.hold c.args.hold c.arm.ensures.lists.0 c.arm.ensures.lists.2 c.arm.ensures.stays.same.pages (subst (λ w. Holds (g.T.Protocol.format w.protocol) (g.T.Protocol.asks w.protocol) c.args.hold w) (sym v) c.requires.holds),
         record { asleep = c.in-Nothing.ensures.asleep; want_is = c.arm.ensures.want c.in-Nothing.ensures.asleep ∙ ap want_of c.want_for.ensures },
         ap (λ w. w.seen) v ∙ c.requires.unseen,
       )) l.live;
       replies = l.replies;
       spare = l.spare;
       size = l.size;
-      room = room_quiet _ _ _ (got_same _ _ c.arm.ensures.lists.0 c.arm.ensures.lists.1) c.arm.ensures.stays.cells c.arm.ensures.lists.2 (ap sent_of c.in-Nothing.ensures.past) l.room;
+      room = room_quiet _ _ _ (got_same _ _ c.arm.ensures.stays.same.pages c.arm.ensures.lists.0 c.arm.ensures.lists.1) c.arm.ensures.stays.cells c.arm.ensures.lists.2 (ap sent_of c.in-Nothing.ensures.past) l.room;
       side = l.side ∙ sym c.arm.ensures.stays.side;
     }
 
@@ -66,7 +67,7 @@ returns-in-Nothing-clause-turns g c =
         seen = c.self.inside.seen;
         hold = c.self.inside.hold;
         relid = c.self.inside.relid;
-      }) c.arm.new.self c.args.hold c.args.hold c.arm.ensures.lists.0 c.arm.ensures.lists.2 (subst (λ w. Holds (g.T.Protocol.format w.protocol) (g.T.Protocol.asks w.protocol) c.args.hold w) (sym v) c.requires.holds),
+      }) c.arm.new.self c.args.hold c.args.hold c.arm.ensures.lists.0 c.arm.ensures.lists.2 c.arm.ensures.stays.same.pages (subst (λ w. Holds (g.T.Protocol.format w.protocol) (g.T.Protocol.asks w.protocol) c.args.hold w) (sym v) c.requires.holds),
       record { asleep = c.in-Nothing.ensures.asleep; want_is = c.arm.ensures.want c.in-Nothing.ensures.asleep ∙ ap want_of c.want_for.ensures },
       ap (λ w. w.seen) v ∙ c.requires.unseen,
     )

@@ -12,6 +12,7 @@ invariant_of-result g c =
     let none : Option ℕ = None in
     λ _. record {
       bare = c.requires.bare;
+      pages = c.requires.pages;
       live = new_kept (g.T.Protocol.format c.args.protocol) (g.T.Protocol.keeps c.args.protocol) (g.T.Protocol.asks c.args.protocol) _ n fresh.0 fresh.1 refl t refl refl c.requires.none refl fresh.2;
       replies = omega (arith, c.requires.replies, ap (count_by is_some) t, none_count ℕ n);
       spare = omega (arith, c.requires.rescinded, c.requires.window.1, ap length t, length-replicate n none);

@@ -11,6 +11,7 @@ invariant_of-self-2 g c =
     let r = l.live.rests (ap (λ w. w.end.state.machine.asleep) v ∙ c.requires.asleep) in
     λ _. record {
       bare = l.bare;
+      pages = c.poll.ensures.stays.same.pages ∙ l.pages;
       live = still_kept (g.T.Protocol.format c.self.inside.protocol) (g.T.Protocol.keeps c.self.inside.protocol) (g.T.Protocol.asks c.self.inside.protocol) (record {
         protocol = c.self.inside.protocol;
         end = c.self.inside.port;
@@ -36,14 +37,14 @@ invariant_of-self-2 g c =
           seen = c.self.inside.seen;
           hold = c.self.inside.hold;
           relid = c.self.inside.relid;
-        }) _ c.self.inside.hold c.self.inside.hold c.poll.ensures.lists.0 c.poll.ensures.lists.2 r.0,
+        }) _ c.self.inside.hold c.self.inside.hold c.poll.ensures.lists.0 c.poll.ensures.lists.2 c.poll.ensures.stays.same.pages r.0,
         record { asleep = c.if-poll.ensures.asleep; want_is = c.poll.ensures.want c.if-poll.ensures.asleep ∙ r.1.want_is },
         r.2,
       )) l.live;
       replies = l.replies;
       spare = l.spare;
       size = l.size;
-      room = room_quiet _ _ _ (got_same _ _ c.poll.ensures.lists.0 c.poll.ensures.lists.1) c.poll.ensures.stays.cells c.poll.ensures.lists.2 (ap sent_of c.if-poll.ensures.past) l.room;
+      room = room_quiet _ _ _ (got_same _ _ c.poll.ensures.stays.same.pages c.poll.ensures.lists.0 c.poll.ensures.lists.1) c.poll.ensures.stays.cells c.poll.ensures.lists.2 (ap sent_of c.if-poll.ensures.past) l.room;
       side = l.side ∙ sym c.poll.ensures.stays.side;
     }
 
@@ -66,7 +67,7 @@ returns-clause-turns g c =
         seen = c.self.inside.seen;
         hold = c.self.inside.hold;
         relid = c.self.inside.relid;
-      }) _ c.self.inside.hold c.self.inside.hold c.poll.ensures.lists.0 c.poll.ensures.lists.2 r.0,
+      }) _ c.self.inside.hold c.self.inside.hold c.poll.ensures.lists.0 c.poll.ensures.lists.2 c.poll.ensures.stays.same.pages r.0,
       record { asleep = c.if-poll.ensures.asleep; want_is = c.poll.ensures.want c.if-poll.ensures.asleep ∙ r.1.want_is },
       r.2,
     )

@@ -6,8 +6,12 @@ use Rattle.ring_core.specs.declared.room.Room.{Room}
 use Rattle.worker_requester.specs.Asking.{id_in, pending}
 use Rattle.worker_requester.proofs.AskSteps.{sent_kept}
 use Rattle.page_kept.specs.Items.{item_of}
-use Rattle.worker_port.proofs.ItemSteps.{laid_is, lays_bare, packet_of, past_is, room_item}
+use Rattle.worker_port.specs.Line.{page_words}
+use Rattle.worker_port.proofs.ItemSteps.{can_lay_bare, laid_is, lays_bare, lays_none, packet_of, past_is, room_item}
 use Rattle.worker_port.proofs.RoomLaws.{got_same}
+use Rattle.channel_trace.specs.Runs.{sent_of}
+use Rattle.worker_port.proofs.RoomLaws.{room_quiet}
+use Rattle.worker_requester.proofs.AskSteps.{tried_kept}
 use Rattle.worker_requester.proofs.requester.Requester.send_waiting.Goals as goal
 
 pub invariant_of-self-in-Sent : goal.invariant_of-self-in-Sent
@@ -18,16 +22,17 @@ invariant_of-self-in-Sent g c =
     let at = l.live.asked c.args.id waits in
     let said = g.T.Protocol.said in
     let q = (g.T.Protocol.format c.self.inside.protocol).encode c.args.id at.0 in
-    let made = laid_is said c.encode.new.self c.packet-packet.result.now _ q c.packet-packet.ensures.value (c.encode.ensures.none l.bare) c.send.ensures.lays (λ j lays. c.encode.ensures.value at.0 j at.1 lays) in
-    let pk = packet_of said g.T.Protocol.said_packet c.packet-packet.result.now _ q c.send.ensures.lays made in
+    let made = laid_is said c.encode.new.self c.packet-packet.result.now _ q c.packet-packet.ensures.value (c.encode.ensures.none l.bare) (lays_none c.self.inside.port c.packet-packet.result.now _ _ l.pages c.send.ensures.lays) (λ j lays. c.encode.ensures.value at.0 j at.1 lays) in
+    let pk = packet_of said g.T.Protocol.said_packet c.packet-packet.result.now _ q (lays_none c.self.inside.port c.packet-packet.result.now _ _ l.pages c.send.ensures.lays) made in
     let past = past_is _ _ _ q made c.in-Sent.ensures.past in
     λ _. record {
       bare = l.bare;
+      pages = c.send.ensures.stays.same.pages ∙ l.pages;
       live = sent_kept (g.T.Protocol.format c.self.inside.protocol) (g.T.Protocol.keeps c.self.inside.protocol) (g.T.Protocol.asks c.self.inside.protocol) _ _ c.args.id at.0 q at.1 waits refl past c.send.ensures.got.0 c.in-Sent.ensures.tries.awake (ap (λ w. w.seen) v ∙ c.requires.unseen) l.live;
       replies = omega (arith, l.replies, slice_get_within (g.T.Protocol.asks c.self.inside.protocol) c.self.inside.next at.0 at.1, ap pending waits);
       spare = l.spare;
       size = l.size;
-      room = room_item _ q c.packet-packet.result.now _ _ pk c.packet-packet.ensures.most (got_same _ _ c.send.ensures.got.0 c.send.ensures.got.1) c.send.ensures.stays.cells c.send.ensures.into past l.room;
+      room = room_item _ q c.packet-packet.result.now _ _ pk c.packet-packet.ensures.most (got_same _ _ c.send.ensures.stays.same.pages c.send.ensures.got.0 c.send.ensures.got.1) c.send.ensures.stays.cells c.send.ensures.into past l.room;
       side = l.side ∙ sym c.send.ensures.stays.side;
     }
 
@@ -39,10 +44,10 @@ returns-in-Full-clause-asked g c =
     let at = l.live.asked c.args.id waits in
     let said = g.T.Protocol.said in
     let q = (g.T.Protocol.format c.self.inside.protocol).encode c.args.id at.0 in
-    let made = laid_is said c.encode.new.self c.packet-packet.result.now _ q c.packet-packet.ensures.value (c.encode.ensures.none l.bare) c.send.ensures.lays (λ j lays. c.encode.ensures.value at.0 j at.1 lays) in
-    let pk = packet_of said g.T.Protocol.said_packet c.packet-packet.result.now _ q c.send.ensures.lays made in
+    let made = laid_is said c.encode.new.self c.packet-packet.result.now _ q c.packet-packet.ensures.value (c.encode.ensures.none l.bare) (lays_none c.self.inside.port c.packet-packet.result.now _ _ l.pages c.send.ensures.lays) (λ j lays. c.encode.ensures.value at.0 j at.1 lays) in
+    let pk = packet_of said g.T.Protocol.said_packet c.packet-packet.result.now _ q (lays_none c.self.inside.port c.packet-packet.result.now _ _ l.pages c.send.ensures.lays) made in
     let made = sym pk ∙ ap (λ o. ((g.T.Protocol.format c.self.inside.protocol).encode (id_in o) at.0).packet) (sym waits) in
-    (at.0, at.1, ap is_some waits ∙ sym at.2, c.need.ensures.value ∙ ap (λ p. 8 * length p + 8) (sym c.packet-packet.ensures.value ∙ made), c.need.ensures.most.0, c.need.ensures.most.1, ap (λ w. w.acked) v ∙ (c.requires.acked ∙ (ap (λ w. length w.end.state.got) (sym v) ∙ ap length (sym c.send.ensures.got.0))), subst (λ (x : List ℕ × Room). (0 < x.1.packets) × (length x.0 ≤ x.1.words)) (λ i. (made i, sym (c.in-Full.ensures.unsent (λ h. cc)) i)) c.in_default.ensures.lacks)
+    (at.0, at.1, ap is_some waits ∙ sym at.2, c.need.ensures.value ∙ ap (λ p. 8 * length p + 8) (sym c.packet-packet.ensures.value ∙ made), c.need.ensures.most.0, c.need.ensures.most.1, ap (λ w. w.acked) v ∙ (c.requires.acked ∙ (ap (λ w. length w.end.state.got) (sym v) ∙ ap length (sym c.send.ensures.got.0))), subst (λ (x : List ℕ × Room × ℕ). (0 < x.1.packets) × (length x.0 + page_words x.2 1 ≤ x.1.words)) (λ i. (made i, sym (c.in-Full.ensures.unsent (λ h. cc)) i, sym c.send.ensures.stays.same.pages i)) c.in_default.ensures.lacks)
 
 pub returns-in-Full-clause-tried : goal.returns-in-Full-clause-tried
 returns-in-Full-clause-tried g c =
@@ -52,13 +57,13 @@ returns-in-Full-clause-tried g c =
     let at = l.live.asked c.args.id waits in
     let said = g.T.Protocol.said in
     let q = (g.T.Protocol.format c.self.inside.protocol).encode c.args.id at.0 in
-    let made = laid_is said c.encode.new.self c.packet-packet.result.now _ q c.packet-packet.ensures.value (c.encode.ensures.none l.bare) c.send.ensures.lays (λ j lays. c.encode.ensures.value at.0 j at.1 lays) in
-    let pk = packet_of said g.T.Protocol.said_packet c.packet-packet.result.now _ q c.send.ensures.lays made in
+    let made = laid_is said c.encode.new.self c.packet-packet.result.now _ q c.packet-packet.ensures.value (c.encode.ensures.none l.bare) (lays_none c.self.inside.port c.packet-packet.result.now _ _ l.pages c.send.ensures.lays) (λ j lays. c.encode.ensures.value at.0 j at.1 lays) in
+    let pk = packet_of said g.T.Protocol.said_packet c.packet-packet.result.now _ q (lays_none c.self.inside.port c.packet-packet.result.now _ _ l.pages c.send.ensures.lays) made in
     let made = sym pk ∙ ap (λ o. ((g.T.Protocol.format c.self.inside.protocol).encode (id_in o) at.0).packet) (sym waits) in
     let told = g.S.Seatlike.told in
     let memory = g.S.Seatlike.memory in
     let e = c.send.new.self in
-    let full : FoundFull told memory c.packet-packet.result.now c.self.inside.port.end e.end = record { tried = c.send.ensures.tried; full = c.in-Full.ensures.full refl } in
+    let full : FoundFull told memory c.packet-packet.result.now c.self.inside.port.end e.end = record { tried = c.send.ensures.tried refl; full = c.in-Full.ensures.full refl } in
     let p = ((g.T.Protocol.format c.self.inside.protocol).encode (id_in c.self.inside.waiting) at.0).packet in
     (at.0, at.1, subst (λ w. FoundFull told memory p w.end.end e.end) v (subst (λ q. FoundFull told memory q c.self.inside.port.end e.end) made full))
 
@@ -75,3 +80,36 @@ returns-in-Some-clause-asked g c =
     let is = laid_is said c.encode.new.self c.packet-packet.result.now item q c.packet-packet.ensures.value (c.encode.ensures.none l.bare) bare (λ j lays. c.encode.ensures.value at.0 j at.1 lays) in
     let made = sym (packet_of said g.T.Protocol.said_packet c.packet-packet.result.now item q bare is) ∙ ap (λ o. ((g.T.Protocol.format c.self.inside.protocol).encode (id_in o) at.0).packet) (sym waits) in
     (inr (at.0, at.1, ap is_some waits ∙ sym at.2, subst (λ p. LacksSendOf c.in-Some.room.packets c.in-Some.room.words p c.self.inside.port) made c.in-Some.ensures.lacks), c.in-Some.ensures.got)
+
+pub send-requires-clause-lays : goal.send-requires-clause-lays
+send-requires-clause-lays g c =
+    let l = c.self.invariant (ap (λ w. w.end.state.machine.marked) c.self.view_is ∙ c.requires.ready.unmarked) in
+    can_lay_bare c.self.inside.port.end c.packet-packet.result.now l.pages
+
+pub invariant_of-self-in-Full : goal.invariant_of-self-in-Full
+invariant_of-self-in-Full g c =
+    let l = c.self.invariant (ap (λ w. w.end.state.machine.marked) c.self.view_is ∙ c.requires.ready.unmarked) in
+    λ _. record {
+      bare = l.bare;
+      pages = c.send.ensures.stays.same.pages ∙ l.pages;
+      live = tried_kept (g.T.Protocol.format c.self.inside.protocol) (g.T.Protocol.keeps c.self.inside.protocol) (g.T.Protocol.asks c.self.inside.protocol) _ _ c.in-Full.ensures.past c.send.ensures.got.0 c.in-Full.ensures.tries.awake l.live;
+      replies = l.replies;
+      spare = l.spare;
+      size = l.size;
+      room = room_quiet _ _ _ (got_same _ _ c.send.ensures.stays.same.pages c.send.ensures.got.0 c.send.ensures.got.1) c.send.ensures.stays.cells (c.in-Full.ensures.unsent (λ h. cc)) (ap sent_of c.in-Full.ensures.past) l.room;
+      side = l.side ∙ sym c.send.ensures.stays.side;
+    }
+
+pub invariant_of-self-in-Broken : goal.invariant_of-self-in-Broken
+invariant_of-self-in-Broken g c =
+    let l = c.self.invariant (ap (λ w. w.end.state.machine.marked) c.self.view_is ∙ c.requires.ready.unmarked) in
+    λ _. record {
+      bare = l.bare;
+      pages = c.send.ensures.stays.same.pages ∙ l.pages;
+      live = tried_kept (g.T.Protocol.format c.self.inside.protocol) (g.T.Protocol.keeps c.self.inside.protocol) (g.T.Protocol.asks c.self.inside.protocol) _ _ c.in-Broken.ensures.past c.send.ensures.got.0 c.in-Broken.ensures.tries.awake l.live;
+      replies = l.replies;
+      spare = l.spare;
+      size = l.size;
+      room = room_quiet _ _ _ (got_same _ _ c.send.ensures.stays.same.pages c.send.ensures.got.0 c.send.ensures.got.1) c.send.ensures.stays.cells (c.in-Broken.ensures.unsent (λ h. cc)) (ap sent_of c.in-Broken.ensures.past) l.room;
+      side = l.side ∙ sym c.send.ensures.stays.side;
+    }

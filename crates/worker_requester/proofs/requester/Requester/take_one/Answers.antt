@@ -16,10 +16,11 @@ invariant_of-self g c =
     let t = c.in-Packet.ensures.took in
     let i = g.T.Protocol.said (item_of c.last-packet.result.now []) in
     let pk = g.T.Protocol.said_packet (item_of c.last-packet.result.now []) in
-    let same = c.last-packet.ensures.value c.self.inside.port.state.got t.0 t.2 in
+    let same = c.last-packet.ensures.bare (c.take.ensures.stays.same.pages ∙ l.pages) c.self.inside.port.state.got t.0 t.2 in
     let other = ap s.is_answer (sym same) ∙ (sym (c.is_answer.ensures i pk) ∙ c.if-not-is_answer.true) in
     λ _. record {
       bare = l.bare;
+      pages = c.take.ensures.stays.same.pages ∙ l.pages;
       live = came_kept s (g.T.Protocol.keeps c.self.inside.protocol) (g.T.Protocol.asks c.self.inside.protocol) _ _ t.0 other t.1 t.2 c.in-Packet.ensures.finds.awake l.live;
       replies = l.replies;
       spare = l.spare;
@@ -35,11 +36,12 @@ invariant_of-self-then-is_waiting_under g c =
     let t = c.in-Packet.ensures.took in
     let i = g.T.Protocol.said (item_of c.last-packet.result.now []) in
     let pk = g.T.Protocol.said_packet (item_of c.last-packet.result.now []) in
-    let same = c.last-packet.ensures.value c.self.inside.port.state.got t.0 t.2 in
+    let same = c.last-packet.ensures.bare (c.take.ensures.stays.same.pages ∙ l.pages) c.self.inside.port.state.got t.0 t.2 in
     let answers = ap s.is_answer (sym same) ∙ (sym (c.is_answer.ensures i pk) ∙ c.if-not-is_answer.false) in
     let e = ap (waits_under c.self.inside.waiting) (sym (c.id-id.ensures i pk ∙ ap s.id_of same)) ∙ (sym c.is_waiting_under.ensures ∙ c.if-is_waiting_under.true) in
     λ _. record {
       bare = l.bare;
+      pages = c.take.ensures.stays.same.pages ∙ l.pages;
       live = stray_by s (g.T.Protocol.keeps c.self.inside.protocol) (g.T.Protocol.asks c.self.inside.protocol) _ c.self.inside.waiting refl _ t.0 answers e t.1 t.2 c.in-Packet.ensures.finds.awake l.live;
       replies = l.replies;
       spare = l.spare;
@@ -61,12 +63,13 @@ invariant_of-self-in-Packet g c =
     let t = c.in-Packet.ensures.took in
     let i = g.T.Protocol.said (item_of c.last-packet.result.now []) in
     let pk = g.T.Protocol.said_packet (item_of c.last-packet.result.now []) in
-    let same = c.last-packet.ensures.value c.self.inside.port.state.got t.0 t.2 in
+    let same = c.last-packet.ensures.bare (c.take.ensures.stays.same.pages ∙ l.pages) c.self.inside.port.state.got t.0 t.2 in
     let answers = ap s.is_answer (sym same) ∙ (sym (c.is_answer.ensures i pk) ∙ c.if-not-is_answer.false) in
     let before = c.came_before-before.ensures.value c.self.inside.port.state.got t.0 t.2 in
     let e = ap (waits_under c.self.inside.waiting) (sym (c.id-id.ensures i pk ∙ ap s.id_of same)) ∙ (sym c.is_waiting_under.ensures ∙ c.if-is_waiting_under.false) in
     λ _. record {
       bare = l.bare;
+      pages = c.take.ensures.stays.same.pages ∙ l.pages;
       live = took_kept s (g.T.Protocol.keeps c.self.inside.protocol) asks _ _ _ _ t.0 answers c.take.ensures.list t.1 t.2 c.in-Packet.ensures.finds.awake e (λ j. c.settle.ensures.closed j ∙ ap (λ q. if j == s.id_of q then None else request_of c.self.inside.table j) same)
           (c.settle.ensures.told ∙ (ap (λ q. c.self.inside.replies.items ++ answer_of s (asked_in asks c.self.inside.table (s.id_of q)) (item_in g.T.Protocol.said c.came_before-before.result.now []) q) same
           ∙ ap (λ b. c.self.inside.replies.items ++ answer_of s (asked_in asks c.self.inside.table (s.id_of t.0)) b t.0) before)) c.settle.ensures.size l.live;

@@ -22,8 +22,9 @@ invariant_of-self g c =
         served = c.self.inside.served;
         seen = c.self.inside.seen;
         want = c.self.inside.want;
-      }) _ c.need-want.result c.need-want.ensures.value (record { asleep = c.in-Nothing.ensures.asleep; want_is = c.arm.ensures.want c.in-Nothing.ensures.asleep }) c.arm.ensures.lists.2 (subst (λ w. HasRoomFor w.responder.owed w.end) (sym v) c.requires.room) c.arm.ensures.lists.0 (subst (λ w. is_nil w.responder.owed ≡ true → HasToWait (g.T.Protocol.format w.responder.protocol) (g.T.Protocol.besides w.responder.protocol) w) (sym v) c.requires.waits) c.in-Nothing.ensures.past (ap (λ w. w.seen) v ∙ c.requires.unseen)) (ap (λ w. w.end.state.machine.marked) c.self.view_is ∙ c.requires.ready.unmarked) c.self.invariant.live;
-      room = room_quiet _ _ _ (got_same _ _ c.arm.ensures.lists.0 c.arm.ensures.lists.1) c.arm.ensures.stays.cells c.arm.ensures.lists.2 (ap sent_of c.in-Nothing.ensures.past) c.self.invariant.room;
+      }) _ c.need-want.result c.need-want.ensures.value (record { asleep = c.in-Nothing.ensures.asleep; want_is = c.arm.ensures.want c.in-Nothing.ensures.asleep }) c.arm.ensures.stays.same.pages c.arm.ensures.lists.2 (subst (λ w. HasRoomFor w.responder.owed w.end) (sym v) c.requires.room) c.arm.ensures.lists.0 (subst (λ w. is_nil w.responder.owed ≡ true → HasToWait (g.T.Protocol.format w.responder.protocol) (g.T.Protocol.besides w.responder.protocol) w) (sym v) c.requires.waits) c.in-Nothing.ensures.past (ap (λ w. w.seen) v ∙ c.requires.unseen)) (ap (λ w. w.end.state.machine.marked) c.self.view_is ∙ c.requires.ready.unmarked) c.self.invariant.live;
+      room = room_quiet _ _ _ (got_same _ _ c.arm.ensures.stays.same.pages c.arm.ensures.lists.0 c.arm.ensures.lists.1) c.arm.ensures.stays.cells c.arm.ensures.lists.2 (ap sent_of c.in-Nothing.ensures.past) c.self.invariant.room;
+      pages = c.arm.ensures.stays.same.pages ∙ c.self.invariant.pages;
       side = c.self.invariant.side ∙ sym c.arm.ensures.stays.side;
     }
 
@@ -31,7 +32,8 @@ pub invariant_of-self-in-Mark : goal.invariant_of-self-in-Mark
 invariant_of-self-in-Mark g c =
     record {
       live = saw_kept (g.T.Protocol.format c.self.inside.responder.protocol) (g.T.Protocol.keeps c.self.inside.responder.protocol) (g.T.Protocol.besides c.self.inside.responder.protocol) _ _ c.need-want.result c.in-Mark.ensures.past c.arm.ensures.lists.0 c.in-Mark.ensures.asleep (ap (λ w. w.end.state.machine.marked) c.self.view_is ∙ c.requires.ready.unmarked) c.self.invariant.live;
-      room = room_quiet _ _ _ (got_same _ _ c.arm.ensures.lists.0 c.arm.ensures.lists.1) c.arm.ensures.stays.cells c.arm.ensures.lists.2 (ap sent_of c.in-Mark.ensures.past) c.self.invariant.room;
+      room = room_quiet _ _ _ (got_same _ _ c.arm.ensures.stays.same.pages c.arm.ensures.lists.0 c.arm.ensures.lists.1) c.arm.ensures.stays.cells c.arm.ensures.lists.2 (ap sent_of c.in-Mark.ensures.past) c.self.invariant.room;
+      pages = c.arm.ensures.stays.same.pages ∙ c.self.invariant.pages;
       side = c.self.invariant.side ∙ sym c.arm.ensures.stays.side;
     }
 
@@ -51,7 +53,7 @@ returns-in-Nothing-clause-turns g c =
         served = c.self.inside.served;
         seen = c.self.inside.seen;
         want = c.self.inside.want;
-      }) _ c.need-want.result c.need-want.ensures.value (record { asleep = c.in-Nothing.ensures.asleep; want_is = c.arm.ensures.want c.in-Nothing.ensures.asleep }) c.arm.ensures.lists.2 (subst (λ w. HasRoomFor w.responder.owed w.end) (sym v) c.requires.room) c.arm.ensures.lists.0 (subst (λ w. is_nil w.responder.owed ≡ true → HasToWait (g.T.Protocol.format w.responder.protocol) (g.T.Protocol.besides w.responder.protocol) w) (sym v) c.requires.waits) c.in-Nothing.ensures.past (ap (λ w. w.seen) v ∙ c.requires.unseen),
+      }) _ c.need-want.result c.need-want.ensures.value (record { asleep = c.in-Nothing.ensures.asleep; want_is = c.arm.ensures.want c.in-Nothing.ensures.asleep }) c.arm.ensures.stays.same.pages c.arm.ensures.lists.2 (subst (λ w. HasRoomFor w.responder.owed w.end) (sym v) c.requires.room) c.arm.ensures.lists.0 (subst (λ w. is_nil w.responder.owed ≡ true → HasToWait (g.T.Protocol.format w.responder.protocol) (g.T.Protocol.besides w.responder.protocol) w) (sym v) c.requires.waits) c.in-Nothing.ensures.past (ap (λ w. w.seen) v ∙ c.requires.unseen),
     )
 
 pub returns-in-Nothing-clause-tried : goal.returns-in-Nothing-clause-tried

@@ -2,6 +2,7 @@ use Rattle.std.proofs.Common.{◌≡◌, ◌+◌, refl, ap, sym, ◌∙◌, subs
 use Rattle.worker_port.specs.Rooms.{KeepsRoom}
 use Rattle.channel_model.specs.Amounts.{room_of}
 use Rattle.worker_server.proofs.ServeSteps.{new_kept}
+use Rattle.worker_port.proofs.PortLaws.{bare_new}
 use Rattle.worker_server.proofs.server.Server.make.Goals as goal
 
 pub invariant_of-result : goal.invariant_of-result
@@ -15,5 +16,9 @@ invariant_of-result g c =
       live = new_kept (g.T.Protocol.format c.in-Ok-make.responder.protocol) (g.T.Protocol.keeps c.in-Ok-make.responder.protocol) (g.T.Protocol.besides c.in-Ok-make.responder.protocol) _ e.0 e.1 (ap (λ d. d.calls) d) (ap (λ d. d.table) d) (ap (λ d. d.owed) d) (ap (λ d. d.left) d) refl refl refl
           (ap (λ m. m.asleep) m);
       room = subst (λ n. KeepsRoom n c.in-Ok.port) p c.in-Ok.ensures.room;
+      pages = ap (λ s. s.pages.count) (c.in-Ok.ensures.end.0 ∙ c.requires.fresh);
       side = ap (λ d. d.side) d ∙ (c.requires.side ∙ sym (ap (λ m. m.side) e.2));
     }
+
+pub with_room-requires-clause-fresh : goal.with_room-requires-clause-fresh
+with_room-requires-clause-fresh g c = bare_new c.args.end c.requires.fresh

@@ -19,8 +19,9 @@ invariant_of-self-2 g c =
         served = c.self.inside.served;
         seen = c.self.inside.seen;
         want = c.self.inside.want;
-      }) _ c.self.inside.want r.want (record { asleep = c.if-poll.ensures.asleep; want_is = c.poll.ensures.want c.if-poll.ensures.asleep ∙ r.armed.want_is }) c.if-poll.ensures.lists.2 r.room c.if-poll.ensures.lists.0 r.waits c.if-poll.ensures.past r.unseen) (ap (λ w. w.end.state.machine.marked) c.self.view_is ∙ c.requires.unmarked) c.self.invariant.live;
-      room = room_quiet _ _ _ (got_same _ _ c.poll.ensures.lists.0 c.poll.ensures.lists.1) c.poll.ensures.stays.cells c.poll.ensures.lists.2 (ap sent_of c.if-poll.ensures.past) c.self.invariant.room;
+      }) _ c.self.inside.want r.want (record { asleep = c.if-poll.ensures.asleep; want_is = c.poll.ensures.want c.if-poll.ensures.asleep ∙ r.armed.want_is }) c.poll.ensures.stays.same.pages c.if-poll.ensures.lists.2 r.room c.if-poll.ensures.lists.0 r.waits c.if-poll.ensures.past r.unseen) (ap (λ w. w.end.state.machine.marked) c.self.view_is ∙ c.requires.unmarked) c.self.invariant.live;
+      room = room_quiet _ _ _ (got_same _ _ c.poll.ensures.stays.same.pages c.poll.ensures.lists.0 c.poll.ensures.lists.1) c.poll.ensures.stays.cells c.poll.ensures.lists.2 (ap sent_of c.if-poll.ensures.past) c.self.invariant.room;
+      pages = c.poll.ensures.stays.same.pages ∙ c.self.invariant.pages;
       side = c.self.invariant.side ∙ sym c.poll.ensures.stays.side;
     }
 
@@ -40,5 +41,5 @@ returns-clause-turns g c =
         served = c.self.inside.served;
         seen = c.self.inside.seen;
         want = c.self.inside.want;
-      }) _ c.self.inside.want r.want (record { asleep = c.if-poll.ensures.asleep; want_is = c.poll.ensures.want c.if-poll.ensures.asleep ∙ r.armed.want_is }) c.if-poll.ensures.lists.2 r.room c.if-poll.ensures.lists.0 r.waits c.if-poll.ensures.past r.unseen,
+      }) _ c.self.inside.want r.want (record { asleep = c.if-poll.ensures.asleep; want_is = c.poll.ensures.want c.if-poll.ensures.asleep ∙ r.armed.want_is }) c.poll.ensures.stays.same.pages c.if-poll.ensures.lists.2 r.room c.if-poll.ensures.lists.0 r.waits c.if-poll.ensures.past r.unseen,
     )

@@ -10,8 +10,9 @@ pub invariant_of-self : goal.invariant_of-self
 invariant_of-self g c =
     let v = c.self.view_is in
     record {
-      live = served_by g.T.Protocol.format g.T.Protocol.keeps g.T.Protocol.besides _ _ (g.T.Protocol.said (item_of c.got.result.now [])) (omega (arith, c.requires.some, ap (λ w. w.served) v, ap (λ w. length w.end.state.got) v)) c.got.ensures.value (ap (λ w. w.responder.owed) v ∙ c.requires.owed) (ap (λ w. lacks_call (g.T.Protocol.format w.responder.protocol) w) v ∙ c.requires.call)
+      live = served_by g.T.Protocol.format g.T.Protocol.keeps g.T.Protocol.besides _ _ (g.T.Protocol.said (item_of c.got.result.now [])) (omega (arith, c.requires.some, ap (λ w. w.served) v, ap (λ w. length w.end.state.got) v)) (c.got.ensures.bare c.self.invariant.pages) (ap (λ w. w.responder.owed) v ∙ c.requires.owed) (ap (λ w. lacks_call (g.T.Protocol.format w.responder.protocol) w) v ∙ c.requires.call)
           c.serve.ensures.few c.serve.ensures.same.1 c.serve.ensures.same.0 c.serve.ensures.serves c.serve.ensures.owes c.serve.ensures.size (ap (λ w. w.end.state.machine.asleep) v ∙ c.requires.ready.awake) c.self.invariant.live;
       room = subst (λ t. KeepsRoom (room_of (g.T.Protocol.besides t) (c.self.inside.starts + c.self.inside.come)) c.self.inside.port) (sym c.serve.ensures.same.0) c.self.invariant.room;
+      pages = c.self.invariant.pages;
       side = c.serve.ensures.channel.0 ∙ c.self.invariant.side;
     }

@@ -14,7 +14,8 @@ invariant_of-self g c =
     record {
       live = marked_by_protocol g.T.Protocol.format g.T.Protocol.keeps g.T.Protocol.besides _ _ c.rescind_all.new.self c.mark.ensures.past c.mark.ensures.lists.0 c.mark.ensures.awake c.mark.ensures.marked c.rescind_all.ensures.same c.self.invariant.live;
       room = subst (λ d. KeepsRoom (room_of (g.T.Protocol.besides d.protocol) (c.self.inside.starts + c.self.inside.come)) c.mark.new.self) (sym c.rescind_all.ensures.same)
-          (room_quiet _ _ _ (got_same _ _ c.mark.ensures.lists.0 c.mark.ensures.lists.1) c.mark.ensures.stays.cells c.mark.ensures.lists.2 (ap sent_of c.mark.ensures.past) c.self.invariant.room);
+          (room_quiet _ _ _ (got_same _ _ c.mark.ensures.stays.same.pages c.mark.ensures.lists.0 c.mark.ensures.lists.1) c.mark.ensures.stays.cells c.mark.ensures.lists.2 (ap sent_of c.mark.ensures.past) c.self.invariant.room);
+      pages = c.mark.ensures.stays.same.pages ∙ c.self.invariant.pages;
       side = ap (λ d. d.side) c.rescind_all.ensures.same ∙ (c.self.invariant.side ∙ sym c.mark.ensures.stays.side);
     }
 

@@ -1,0 +1,5 @@
+pub mod SeatLaws
+pub mod Histories
+pub mod Growing
+pub mod ManySeats
+pub mod Uniting
