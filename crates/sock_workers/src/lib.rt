@@ -9,5 +9,5 @@ mod port;
 
 pub use both::run_both;
 pub use ended::{Ended, Turn};
-pub use guest::{GuestDone, SockGuest};
+pub use guest::{GuestDone, SockGuest, packets_for};
 pub use host::{HostDone, SockHost};

@@ -1,0 +1,2 @@
+pub mod PacketRuns
+pub mod Joining
