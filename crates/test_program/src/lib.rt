@@ -18,6 +18,8 @@ mod network_tests;
 #[cfg(test)]
 mod rescind_tests;
 #[cfg(test)]
+mod sock_tests;
+#[cfg(test)]
 mod sub_channel_tests;
 #[cfg(test)]
 mod thread_tests;

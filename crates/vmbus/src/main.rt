@@ -7,7 +7,7 @@ use std::process::ExitCode;
 use std::{env, io};
 use vmbus_main::{Outcome, vmbus};
 
-const USAGE: &str = "usage: vmbus run | load SEED COUNT | decode | hostile | trace";
+const USAGE: &str = "usage: vmbus run | load SEED COUNT | decode | hostile | sock PORT | trace";
 
 /// The program's words without its own name; none where they are no text.
 fn words(rt: &HostRuntime) -> io::Result<Vec<Vec<u8>>> {

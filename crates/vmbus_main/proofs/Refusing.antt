@@ -6,7 +6,7 @@ use Rattle.bus_model.specs.declared.channel_run.ChannelRun.{ChannelRun}
 use Rattle.device_kinds.specs.declared.history.DeviceHistory.{DeviceHistory}
 use Rattle.vmbus_main.specs.declared.command.Command.TheVariants.{Input}
 use Rattle.vmbus_main.specs.declared.command.InputCommand.{InputCommand}
-use Rattle.vmbus_main.specs.declared.command.InputCommand.TheVariants.{Run, Decode, Trace, Hostile}
+use Rattle.vmbus_main.specs.declared.command.InputCommand.TheVariants.{Run, Decode, Trace, Hostile, Sock}
 use Rattle.vmbus_main.specs.declared.outcome.Controls.{Controls}
 use Rattle.vmbus_main.specs.Answer.{IsAnswer, IsFault}
 use Rattle.vmbus_main.specs.Call.{TellsRefused, most_bytes}
@@ -24,6 +24,7 @@ no_fault Trace input controls settled histories output fault answer faulty =
 no_fault Hostile input controls settled histories output fault answer faulty =
     let both : Ok answer.0.input ≡ Err fault = sym answer.0.reads ∙ faulty in
     cc (both)
+no_fault (Sock port) input controls settled histories output fault answer faulty = faulty
 
 pub told : (command : InputCommand) (left : Option (List ℕ)) (input : List ℕ) (controls : Option Controls) (settled : List ChannelRun) (histories : List DeviceHistory) (output : List ℕ) → HoldsWhole left input → length input ≤ most_bytes → IsAnswer command input controls settled histories output → TellsRefused (Some (Input command)) left → ⊥
 told command None input controls settled histories output whole short answer refused = refused

@@ -5,7 +5,7 @@ use Rattle.std.specs.Str.{bytes_eq}
 use Rattle.script_text.specs.Forms.{is_decimal, number_of, in_u64, within}
 use Rattle.vmbus_main.specs.declared.command.Command.{Command}
 use Rattle.vmbus_main.specs.declared.command.Command.TheVariants.{Input, Load}
-use Rattle.vmbus_main.specs.declared.command.InputCommand.TheVariants.{Run, Decode, Trace, Hostile}
+use Rattle.vmbus_main.specs.declared.command.InputCommand.TheVariants.{Run, Decode, Trace, Hostile, Sock}
 
 -- the table of commands of one word
 abbrev pub named : List ℕ → Option Command
@@ -14,6 +14,15 @@ named word =
     if bytes_eq word (codes "decode") then Some (Input Decode) else
     if bytes_eq word (codes "trace") then Some (Input Trace) else
     if bytes_eq word (codes "hostile") then Some (Input Hostile) else None
+
+-- a port that is in its range
+abbrev pub sock_of : Option ℕ → Option Command
+sock_of (Some port) = Some (Input (Sock port))
+sock_of None = None
+
+-- PORT, behind sock: a number of 32 bits
+abbrev pub sock_row : List ℕ → Option Command
+sock_row port = if is_decimal port then sock_of (within 0 (2 ^ 32 - 1) (in_u64 (number_of port))) else None
 
 -- a seed and a count that are in their ranges, where the count is even
 abbrev pub load_of : Option ℕ → Option ℕ → Option Command
@@ -30,7 +39,7 @@ load_row seed count =
 abbrev pub command_of : List (Vec ℕ Global) → Option Command
 command_of [] = None
 command_of (word ∷ []) = named word.items
-command_of (word ∷ one ∷ []) = None
+command_of (word ∷ port ∷ []) = if bytes_eq word.items (codes "sock") then sock_row port.items else None
 command_of (word ∷ seed ∷ count ∷ []) = if bytes_eq word.items (codes "load") then load_row seed.items count.items else None
 command_of (word ∷ one ∷ two ∷ three ∷ words) = None
 

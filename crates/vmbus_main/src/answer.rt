@@ -8,6 +8,7 @@ use crate::command::InputCommand;
 use crate::hostile::hostile_input;
 use crate::outcome::Controls;
 use crate::run::{BusRan, run_script};
+use crate::sock::sock_input;
 use crate::trace::trace_input;
 use bus_model::{ChannelRun, DeviceHistory};
 use bus_script::{ParseFault, parse, report};
@@ -43,6 +44,7 @@ pub fn answer_input<R: Threads + Wait + Sync, G: Gate>(
         InputCommand::Decode => decode_input(alloc, input),
         InputCommand::Trace => trace_input(alloc, input),
         InputCommand::Hostile => hostile_input(alloc, input),
+        InputCommand::Sock { port } => sock_input(rt, alloc, port, input),
     }
 }
 

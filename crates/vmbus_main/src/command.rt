@@ -1,7 +1,7 @@
 //! The commands of the program.
 ghost use Rattle.std.specs.Prelude.{◌≡◌, ◌≤◌, IfSome};
 ghost use Rattle.script_text.specs.Forms.{is_decimal, number_of, in_u64, within};
-ghost use Rattle.vmbus_main.specs.Words.{command_of, named, load_row, load_of, HasCount};
+ghost use Rattle.vmbus_main.specs.Words.{command_of, named, sock_row, sock_of, load_row, load_of, HasCount};
 
 use script_text::{is_decimal, number_of, within};
 
@@ -16,6 +16,11 @@ pub enum InputCommand {
     Trace,
     /// Reads what a peer writes and what is asked of an end and of other parts beside it, and writes what each came to.
     Hostile,
+    /// Sends its input to the service at a port, and writes what that sends back.
+    Sock {
+        /// The port at which the service listens.
+        port: u32,
+    },
 }
 
 /// What the program does.
@@ -39,6 +44,7 @@ pub fn command_of(words: &[Vec<u8>]) -> Option<Command>
 {
     match words {
         [word] => named(word),
+        [word, port] if word.as_slice() == b"sock".as_slice() => sock_row(port),
         [word, seed, count] if word.as_slice() == b"load".as_slice() => load_row(seed, count),
         _ => None,
     }
@@ -61,6 +67,27 @@ fn named(word: &[u8]) -> Option<Command>
         return Some(Command::Input(InputCommand::Hostile));
     }
     None
+}
+
+/// A socket's port, a number of 32 bits.
+fn sock_row(port: &[u8]) -> Option<Command>
+    ensures command { result ≡ sock_row port.now }
+    ensures count { IfSome result HasCount }
+{
+    if !is_decimal(port) {
+        return None;
+    }
+    sock_of(within(0, u32::MAX, number_of(port)))
+}
+
+fn sock_of(port: Option<u32>) -> Option<Command>
+    ensures command { result ≡ sock_of port }
+    ensures count { IfSome result HasCount }
+{
+    match port {
+        Some(port) => Some(Command::Input(InputCommand::Sock { port })),
+        None => None,
+    }
 }
 
 /// A load's seed, a number of 32 bits, and its count, an even number from 2 to 8,192.

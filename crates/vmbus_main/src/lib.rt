@@ -8,6 +8,7 @@ mod hostile;
 mod laws;
 mod outcome;
 mod run;
+mod sock;
 mod trace;
 
 pub use call::vmbus;
