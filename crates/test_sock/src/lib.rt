@@ -5,3 +5,5 @@
 mod check;
 #[cfg(test)]
 mod pair_tests;
+#[cfg(test)]
+mod told_tests;
