@@ -1,3 +1,4 @@
 pub mod EchoLaws
 pub mod InPackets
 pub mod PacketRuns
+pub mod Bare

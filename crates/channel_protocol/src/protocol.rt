@@ -36,7 +36,7 @@ pub trait Protocol: Drop {
     ghost use Rattle.channel_model.specs.Amounts.{MayHaveMessages};
     ghost use Rattle.channel_model.specs.WireFormat.{WireFormat, Keeps, listed, under_own};
     ghost use Rattle.channel_protocol.specs.Listed.{answer_in, has_message_in, message_in};
-    ghost use Rattle.channel_protocol.specs.Paged.{IsWritten, Lays, LaysSome, item_in};
+    ghost use Rattle.channel_protocol.specs.Paged.{IsWritten, KeepsPages, Lays, LaysSome, item_in, words_lent};
     ghost use Rattle.page_kept.specs.declared.item.Item.{Item};
     ghost use Rattle.page_kept.specs.Items.{item_of};
 
@@ -54,13 +54,18 @@ pub trait Protocol: Drop {
 
     ghost said_packet: { (i : Item) → (said i).packet ≡ i.packet };
 
+    ghost said_few: { (i : Item) → length (said i).words ≤ length i.words };
+
     ghost said_bare: { (p : List ℕ) → said (item_of p []) ≡ item_of p [] };
 
     /// What the packets say, with the page words that are read of them.
     ghost format: { Self → WireFormat Item Self.Ask Self.Request Self.Reply };
 
-    /// Whether its packets may lend pages.
+    /// Whether its packets lend data pages of the channel.
     ghost lends: { Self → Bool };
+
+    /// Where they do, they keep to what the pages ask.
+    ghost paged: { (s : Self) → lends s ≡ true → KeepsPages (format s) };
 
     ghost keeps: { (s : Self) → Keeps (format s) };
 
@@ -94,14 +99,16 @@ pub trait Protocol: Drop {
         requires { k < length (asks self.now) }
         ensures { (a : Self.Ask) → slice_get (asks self.now) k ≡ Some a → result ≡ (format self.now).has_answer a };
 
-    /// Writes the packet that asks this under an id.
+    /// Writes the packet that asks this under an id. Where packets lend pages, the ids are at most 64, and the packet itself says how many page words it lends.
     fn encode(&self, k: u32, id: u64, out: &mut [u64], page: &mut [u64]) -> Written
         requires which { k < length (asks self.now) }
+        requires id { lends self.now ≡ true → id ≤ 64 }
         requires out { length out.old ≡ 384 }
         requires page { length page.old ≡ 512 }
         ensures value { (a : Self.Ask) (i : Item) → slice_get (asks self.now) k ≡ Some a → Lays (take result.packet out.new) (take result.words page.new) result.lent i → said i ≡ (format self.now).encode id a }
         ensures packet { IsPacket (take result.packet out.new) }
         ensures most { IsWritten result }
+        ensures lent { lends self.now ≡ true → result.lent ≡ words_lent (take result.packet out.new) }
         ensures none { lends self.now ≡ false → result.lent ≡ 0 }
         ensures page { length page.new ≡ 512 };
 
@@ -130,11 +137,12 @@ pub trait Protocol: Drop {
         requires { IsPacket packet.now }
         ensures { (i : Item) → i.packet ≡ packet.now → result ≡ (format self.now).is_message i };
 
-    /// Writes what acknowledges a message.
+    /// Writes what acknowledges a message. Where packets lend pages, the page of the message goes back with it, and its words say nothing.
     fn write_ack(&self, packet: &[u64], out: &mut [u64]) -> usize
         requires packet { IsPacket packet.now }
         requires out { length out.old ≡ 384 }
         ensures value { (i : Item) → i.packet ≡ packet.now → (format self.now).is_message i ≡ true → item_of (take result out.new) [] ≡ (format self.now).ack i }
+        ensures back { lends self.now ≡ true → (i j : Item) → i.packet ≡ packet.now → (format self.now).is_message i ≡ true → j.packet ≡ take result out.new → said j ≡ (format self.now).ack i }
         ensures written { (i : Item) → i.packet ≡ packet.now → (format self.now).is_message i ≡ true → IsPacket (take result out.new) }
         ensures most { result ≤ 384 };
 
@@ -175,20 +183,23 @@ pub trait Protocol: Drop {
     ) -> Written
         requires packet { IsPacket packet.now }
         requires words { length words.now ≤ 512 }
+        requires own { lends self.now ≡ true → own ≤ 64 }
         requires out { length out.old ≡ 384 }
         requires page { length page.old ≡ 512 }
         ensures value { LaysSome said (take result.packet out.new) (take result.words page.new) result.lent (message_in own ((format self.now).fixed (said (item_of packet.now words.now)))) }
         ensures written { 0 < result.packet → IsPacket (take result.packet out.new) }
         ensures most { IsWritten result }
+        ensures lent { lends self.now ≡ true → result.lent ≡ words_lent (take result.packet out.new) }
         ensures none { lends self.now ≡ false → result.lent ≡ 0 }
         ensures page { length page.new ≡ 512 };
 
-    /// Writes the answer that goes back for such a packet, if one does.
+    /// Writes the answer that goes back for such a packet, if one does. Where packets lend pages, the page of that packet goes back with it, and its words say nothing.
     fn write_fixed(&self, packet: &[u64], words: &[u64], out: &mut [u64]) -> usize
         requires packet { IsPacket packet.now }
         requires words { length words.now ≤ 512 }
         requires out { length out.old ≡ 384 }
         ensures value { LaysSome said (take result out.new) [] 0 (answer_in ((format self.now).fixed (said (item_of packet.now words.now)))) }
+        ensures back { lends self.now ≡ true → (n : ℕ) → LaysSome said (take result out.new) [] n (answer_in ((format self.now).fixed (said (item_of packet.now words.now)))) }
         ensures written { 0 < result → IsPacket (take result out.new) }
         ensures most { result ≤ 384 };
 
@@ -212,15 +223,18 @@ pub trait Protocol: Drop {
         requires packet { IsPacket packet.now }
         requires words { length words.now ≤ 512 }
         requires fits { (q : Self.Request) × ((format self.now).read (said (item_of packet.now words.now)) ≡ Some q) × ((format self.now).fits q reply.now ≡ true) }
+        requires own { lends self.now ≡ true → own ≤ 64 }
         requires out { length out.old ≡ 384 }
         requires page { length page.old ≡ 512 }
         ensures value { LaysSome said (take result.packet out.new) (take result.words page.new) result.lent (under_own own ((format self.now).gives (said (item_of packet.now words.now)) reply.now).message) }
         ensures written { 0 < result.packet → IsPacket (take result.packet out.new) }
         ensures most { IsWritten result }
+        ensures lent { lends self.now ≡ true → result.lent ≡ words_lent (take result.packet out.new) }
         ensures none { lends self.now ≡ false → result.lent ≡ 0 }
         ensures page { length page.new ≡ 512 };
 
-    /// Writes the answer with the device's reply.
+    /// Writes the answer with the device's reply. It brings back no more page words than came with the packet; where packets lend pages, the whole part of the page goes
+    /// back, and the words past these say nothing.
     fn write_answer(
         &self,
         packet: &[u64],
@@ -237,8 +251,10 @@ pub trait Protocol: Drop {
         requires out { length out.old ≡ 384 }
         requires page { length page.old ≡ 512 }
         ensures value { (i : Item) → Lays (take result.packet out.new) (take result.words page.new) result.lent i → said i ≡ ((format self.now).gives (said (item_of packet.now words.now)) reply.now).answer }
+        ensures back { lends self.now ≡ true → (n : ℕ) (i : Item) → result.lent ≤ n → Lays (take result.packet out.new) (take result.words page.new) n i → said i ≡ ((format self.now).gives (said (item_of packet.now words.now)) reply.now).answer }
         ensures packet { IsPacket (take result.packet out.new) }
         ensures most { IsWritten result }
+        ensures within { result.lent ≤ length (said (item_of packet.now words.now)).words }
         ensures none { lends self.now ≡ false → result.lent ≡ 0 }
         ensures page { length page.new ≡ 512 };
 

@@ -37,6 +37,7 @@ fn word(packet: &[u64], i: usize) -> u64
 impl Protocol for RegisterProtocol {
     ghost use Rattle.std.specs.Prelude.{false};
     ghost use Rattle.std.proofs.Common.{refl};
+    ghost use Rattle.channel_protocol.proofs.Bare.{few_same, none_paged};
     ghost use Rattle.example_device.specs.Registers.{register_items};
     ghost use Rattle.example_device.specs.RegisterLaws.{items_keep, items_silent};
 
@@ -52,11 +53,15 @@ impl Protocol for RegisterProtocol {
 
     ghost said_packet = { λ i. refl };
 
+    ghost said_few = { few_same };
+
     ghost said_bare = { λ p. refl };
 
     ghost format = { λ s. register_items };
 
     ghost lends = { λ s. false };
+
+    ghost paged = { λ s e. none_paged (register_items) e };
 
     ghost keeps = { λ s. items_keep };
 

@@ -18,12 +18,12 @@ use Rattle.page_kept.specs.Stepped.{page_stored, page_loaded, page_loaded_at}
 use Rattle.page_kept.specs.Counts.{bit, count, is_ask, is_done}
 use Rattle.page_kept.specs.Keepers.{Keeper, keeper, asked, back, MaySend}
 use Rattle.ring_loan_rule.specs.Moves.{set_owner, sent_item, took_item}
-use Rattle.ring_loan_rule.specs.Laws.{Lawful, new_keeper}
+use Rattle.ring_loan_rule.specs.Laws.{new_keeper}
 use Rattle.ring_loan_rule.proofs.Counts.{by_test, yes_is, no_is, packets_append, count_one}
 use Rattle.ring_loan_rule.proofs.Frame.{by_page, is_same, is_other, owner_here, owner_else}
 use Rattle.ring_loan_rule.proofs.Flows.{ask_no_done, done_no_ask, ask_is, done_is, else_ask, else_done}
 use Rattle.ring_loan_rule.proofs.Keeping.{first_none, first_some, IsFirst, held_under, lent_under}
-use Rattle.page_home_laws.specs.Home.{first_of, LendsItsOwn, opened, closed, HasOrLent, HomeKept}
+use Rattle.page_home_laws.specs.Home.{first_of, IsListed, LendsItsOwn, opened, closed, HasOrLent, HomeKept}
 
 -- the ids that are open
 open_here : (is_open : ℕ → Bool) (t : ℕ) → opened is_open t t ≡ true
@@ -260,7 +260,7 @@ module _ (s : Side) (c : ℕ) (is_open : ℕ → Bool) (x : Keeper) (h : HomeKep
   holds_page p g d q t n may =
       took_with is_open p g (set_owner q (Held t n) x.owner) d (pages_but q (Held t n) (hold_no_has t (x.owner q) may) (λ u e. hold_no_lent t u (x.owner q) may e)) (lent_but q (Held t n) (λ u m e. (cc))) (same_bits p)
 
-module _ (l : Layout) (s : Side) (is_open : ℕ → Bool) (took : List (List ℕ)) (k : Kept) (fit : Lawful l k) (h : HomeKept s k.count is_open (keeper l s took k)) where
+module _ (l : Layout) (s : Side) (is_open : ℕ → Bool) (took : List (List ℕ)) (k : Kept) (fit : IsListed l k) (h : HomeKept s k.count is_open (keeper l s took k)) where
   abbrev x : Keeper
   x = keeper l s took k
 
@@ -268,7 +268,7 @@ module _ (l : Layout) (s : Side) (is_open : ℕ → Bool) (took : List (List ℕ
   owners_are q w e = (λ j r. owners_set l s k.owners q w e r j)
 
   within : (a : Loan) (p : List ℕ) → l.lends p ≡ Some a → a.page < length k.owners
-  within a p e = let i = (fit.inside p a e).0 in let m = fit.listed in omega (arith, i, m)
+  within a p e = let i = fit.inside p a e in let m = fit.listed in omega (arith, i, m)
 
   -- the first page that passes
   abbrev AtPlace : (Owner → Bool) → ℕ → Type 0

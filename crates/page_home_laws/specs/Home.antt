@@ -1,5 +1,5 @@
 -- The pages of an end under the ids of its requests: a request lends the page of its own id, or none.
-use Rattle.std.specs.Prelude.{◌≡◌, ◌≤◌, ◌<◌, ◌+◌, ◌==◌, ◌⊎◌, ℕ, Bool, true, false, cond, List, [], ◌∷◌, ◌++◌, Some, None}
+use Rattle.std.specs.Prelude.{◌≡◌, ◌≤◌, ◌<◌, ◌+◌, ◌==◌, ◌⊎◌, ℕ, Bool, true, false, cond, List, [], ◌∷◌, ◌++◌, length, Some, None}
 use Rattle.io_edge.specs.declared.side.Side.{Side}
 use Rattle.io_edge.specs.declared.side.Side.TheVariants.{Guest, Host}
 use Rattle.pkt_desc.specs.Packets.{kind_of, id_of}
@@ -11,7 +11,6 @@ use Rattle.page_kept.specs.Kept.{is_lent, pages_sent, pages_took}
 use Rattle.page_kept.specs.Stepped.{page_stored, page_loaded}
 use Rattle.page_kept.specs.Counts.{bit}
 use Rattle.page_kept.specs.Keepers.{Keeper, keeper, asked, back}
-use Rattle.ring_loan_rule.specs.Laws.{Lawful}
 
 -- the first page of a channel whose home is this end
 abbrev pub first_of : Side → ℕ
@@ -40,10 +39,16 @@ pub record HomeKept (s : Side) (pages : ℕ) (is_open : ℕ → Bool) (x : Keepe
   pub lent : (q t n : ℕ) → x.owner q ≡ Lent t n → (q + 1 ≡ first_of s + t) × (is_open t ≡ true)
   pub completed : (t : ℕ) → 1 ≤ t → asked t x ≤ back t x + bit (is_open t)
 
+-- The pages of an end are listed, and each page that a packet names is in the list
+pub record IsListed (l : Layout) (k : Kept) : Type 0 where
+  pub pages : (k.count == 0) ≡ false
+  pub listed : length k.owners ≡ k.count
+  pub inside : (p : List ℕ) (a : Loan) → l.lends p ≡ Some a → a.page < k.count
+
 -- Each move of an end keeps that: a request is sent under an id that isn't open; a packet with id 0 is sent, which lends nothing; a completion is sent; a completion is
 -- taken; any other packet is taken; a page word is stored; a page word is loaded
 abbrev pub KeepsHome : Layout → Side → (ℕ → Bool) → List (List ℕ) → Kept → Type 0
-KeepsHome l s is_open took k = Lawful l k → HomeKept s k.count is_open (keeper l s took k)
+KeepsHome l s is_open took k = IsListed l k → HomeKept s k.count is_open (keeper l s took k)
     → ((p : List ℕ) → (kind_of p == 11) ≡ false → is_open (id_of p) ≡ false → LendsItsOwn l s p → HomeKept s k.count (opened is_open (id_of p)) (keeper l s took (pages_sent l k p)))
     × ((p : List ℕ) → (kind_of p == 11) ≡ false → id_of p ≡ 0 → l.lends p ≡ None → HomeKept s k.count is_open (keeper l s took (pages_sent l k p)))
     × ((p : List ℕ) → (kind_of p == 11) ≡ true → HomeKept s k.count is_open (keeper l s took (pages_sent l k p)))

@@ -40,6 +40,7 @@ fn word(packet: &[u64], i: usize) -> u64
 impl Protocol for Echo {
     ghost use Rattle.std.specs.Prelude.{true, false};
     ghost use Rattle.std.proofs.Common.{refl};
+    ghost use Rattle.channel_protocol.proofs.Bare.{few_same, none_paged};
     ghost use Rattle.channel_protocol.specs.Echo.{echo_format};
     ghost use Rattle.channel_protocol.specs.Paged.{in_packets};
     ghost use Rattle.channel_protocol.proofs.EchoLaws.{echo_keeps};
@@ -57,11 +58,15 @@ impl Protocol for Echo {
 
     ghost said_packet = { λ i. refl };
 
+    ghost said_few = { few_same };
+
     ghost said_bare = { λ p. refl };
 
     ghost format = { λ s. in_packets echo_format };
 
     ghost lends = { λ s. false };
+
+    ghost paged = { λ s e. none_paged (in_packets echo_format) e };
 
     ghost keeps = { λ s. keeps_in_packets echo_format echo_keeps };
 

@@ -9,3 +9,6 @@ mod channel_tests;
 mod check;
 #[cfg(test)]
 mod echo;
+pub mod swap;
+#[cfg(test)]
+mod swap_tests;

@@ -99,7 +99,7 @@ pub whole_none : (ps : List (List ℕ)) → whole ps [] ≡ map (λ (p : List �
 whole_none [] = refl
 whole_none (p ∷ ps) = ap (λ (l : List Item). item_of p [] ∷ l) (whole_none ps)
 
-whole_items : (is : List Item) → whole (packets is) is ≡ is
+pub whole_items : (is : List Item) → whole (packets is) is ≡ is
 whole_items [] = refl
 whole_items (i ∷ is) = ap (λ (l : List Item). i ∷ l) (whole_items is)
 

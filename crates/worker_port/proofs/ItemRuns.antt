@@ -10,7 +10,7 @@ use Rattle.channel_model.proofs.Runs.{guest_front, host_front}
 use Rattle.ring_core.specs.Seen.{Seen}
 use Rattle.ring_core.specs.declared.told.Told.{Told}
 use Rattle.worker_port.specs.Line.{GotItems, IsLine, past_as, whole}
-use Rattle.worker_port.proofs.ItemLaws.{items_along, line_filled, packets_along, whole_none}
+use Rattle.worker_port.proofs.ItemLaws.{items_along, line_filled, packets_along, whole_items, whole_none}
 
 module _ (f : Item → Item) where
   map_append : (xs ys : List Item) → map f (xs ++ ys) ≡ map f xs ++ map f ys
@@ -53,6 +53,10 @@ module _ {S : Type 0} {told : S → Option Told} (f : Item → Item) where
   pub items_got : (e : Seen S) → IsLine told e → got_of (past_as f e.state) ≡ map f (whole e.state.got e.state.pages.got)
   unfolding past_as
   items_got e h = all_got (λ p. f (item_of p [])) e.state.past (map f (whole e.state.sent e.state.pages.sent)) (map f (whole e.state.got e.state.pages.got)) (line_filled f e h)
+
+-- items of all packets are all that there is
+pub whole_is : (ps : List (List ℕ)) (is : List Item) → packets is ≡ ps → whole ps is ≡ is
+whole_is ps is e = subst (λ l. whole l is ≡ is) e (whole_items is)
 
 -- the packets of the items are those that it sent and got
 pub items_packets : {S : Type 0} (told : S → Option Told) (e : Seen S) → IsLine told e → (packets (whole e.state.sent e.state.pages.sent) ≡ e.state.sent) × (packets (whole e.state.got e.state.pages.got) ≡ e.state.got)

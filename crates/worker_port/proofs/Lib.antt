@@ -1,8 +1,10 @@
 pub mod RoomLaws
 pub mod PageLaws
 pub mod SendLaws
+pub mod HomeLaws
 pub mod PortLaws
 pub mod TakeLaws
 pub mod ItemLaws
 pub mod ItemSteps
 pub mod ItemRuns
+pub mod LentLaws

@@ -2,6 +2,7 @@
 use Rattle.std.proofs.Common.{◌≡◌, ◌≢◌, ℕ, zero, suc, ◌+◌, ◌*◌, ◌<◌, ◌≤◌, ◌==◌, ◌⊎◌, Bool, true, false, cond, eqb, ltb, take, List, [], ◌∷◌, ◌++◌, length, get_or, set, Option, Some, None, refl, sym, ap, ◌∙◌, subst, arith, inl, inr}
 use Rattle.std.specs.Prelude.{slice_get, slice_index_or, is_some}
 use Rattle.std.proofs.lemmas.Bool.Decides.{nat_tests}
+use Rattle.std.proofs.lemmas.List.{length-set}
 use Rattle.page_kept.specs.declared.due.Due.{Due}
 use Rattle.page_kept.specs.declared.due.Due.TheVariants.{Clear, Loads as DueLoads}
 use Rattle.page_kept.specs.declared.item.Item.{Item}
@@ -97,28 +98,30 @@ pub record SentPages (k k' : Kept) (p : List ℕ) : Type 0 where
   pub due : k'.due ≡ k.due
   pub sent : k'.sent ≡ k.sent ++ item_of p (last_words k'.sent) ∷ []
   pub held : AreFew k.owners → AreFew k'.owners
+  pub listed : length k'.owners ≡ length k.owners
   pub few : AreFew k.owners → length (last_words k'.sent) ≤ 512
 
-sent_with : (k : Kept) (p ws : List ℕ) (os : List Owner) → (AreFew k.owners → AreFew os) → (AreFew k.owners → length ws ≤ 512) → SentPages k (with_sent k p ws os) p
-sent_with k p ws os held few = record {
+sent_with : (k : Kept) (p ws : List ℕ) (os : List Owner) → (AreFew k.owners → AreFew os) → length os ≡ length k.owners → (AreFew k.owners → length ws ≤ 512) → SentPages k (with_sent k p ws os) p
+sent_with k p ws os held listed few = record {
   count = refl;
   got = refl;
   due = refl;
   sent = ap (λ (w : List ℕ). k.sent ++ item_of p w ∷ []) (sym (last_more k.sent (item_of p ws)));
   held = held;
+  listed = listed;
   few = λ h. omega (arith, ap length (last_more k.sent (item_of p ws)), few h);
 }
 
 sent_back : (k : Kept) (p : List ℕ) (at : Option ℕ) → SentPages k (gives_back k p at) p
-sent_back k p None = sent_with k p [] k.owners (λ h. h) (λ h. omega arith)
+sent_back k p None = sent_with k p [] k.owners (λ h. h) refl (λ h. omega arith)
 sent_back k p (Some q) =
-    sent_with k p (values (lent_words (get_or k.owners q Away)) (copy_in k q)) (set k.owners q Away) (λ h. few_set k.owners q Away h (omega arith))
+    sent_with k p (values (lent_words (get_or k.owners q Away)) (copy_in k q)) (set k.owners q Away) (λ h. few_set k.owners q Away h (omega arith)) (length-set k.owners q Away)
     (λ h. omega (arith, values_long (lent_words (get_or k.owners q Away)) (copy_in k q), few_at k.owners h q))
 
 sent_out : (k : Kept) (p : List ℕ) (at : Option Loan) → ((a : Loan) → at ≡ Some a → a.words ≤ 512) → SentPages k (lends_out k p at) p
-sent_out k p None inside = sent_with k p [] k.owners (λ h. h) (λ h. omega arith)
+sent_out k p None inside = sent_with k p [] k.owners (λ h. h) refl (λ h. omega arith)
 sent_out k p (Some a) inside =
-    sent_with k p (values a.words (copy_in k a.page)) (set k.owners a.page (Lent (id_of p) a.words)) (λ h. few_set k.owners a.page (Lent (id_of p) a.words) h (inside a refl))
+    sent_with k p (values a.words (copy_in k a.page)) (set k.owners a.page (Lent (id_of p) a.words)) (λ h. few_set k.owners a.page (Lent (id_of p) a.words) h (inside a refl)) (length-set k.owners a.page (Lent (id_of p) a.words))
     (λ h. omega (arith, values_long a.words (copy_in k a.page), inside a refl))
 
 pub sent_pages : (c : ℕ) (k : Kept) (p : List ℕ) → k.count ≢ 0 → SentPages k (pages_sent (layout c) k p) p
@@ -133,23 +136,24 @@ pub record TookPages (k k' : Kept) (p : List ℕ) : Type 0 where
   pub count : k'.count ≡ k.count
   pub sent : k'.sent ≡ k.sent
   pub held : AreFew k.owners → AreFew k'.owners
+  pub listed : length k'.owners ≡ length k.owners
   pub items : ((k'.due ≡ k.due) × (k'.got ≡ k.got ++ item_of p [] ∷ [])) ⊎ ((q : ℕ) × (n : ℕ) × (k'.due ≡ DueLoads q n 0) × (k'.got ≡ k.got))
 
 took_bare : (k : Kept) (p : List ℕ) → TookPages k (with_took k p) p
-took_bare k p = record { count = refl; sent = refl; held = λ h. h; items = inl (refl, refl) }
+took_bare k p = record { count = refl; sent = refl; held = λ h. h; listed = refl; items = inl (refl, refl) }
 
-took_due : (k : Kept) (p : List ℕ) (os : List Owner) (q n : ℕ) → (AreFew k.owners → AreFew os) → TookPages k (with_due k os q n) p
-took_due k p os q n held = record { count = refl; sent = refl; held = held; items = inr (q, n, refl, refl) }
+took_due : (k : Kept) (p : List ℕ) (os : List Owner) (q n : ℕ) → (AreFew k.owners → AreFew os) → length os ≡ length k.owners → TookPages k (with_due k os q n) p
+took_due k p os q n held listed = record { count = refl; sent = refl; held = held; listed = listed; items = inr (q, n, refl, refl) }
 
 took_back : (k : Kept) (p : List ℕ) (at : Option ℕ) → TookPages k (has_back k p at) p
 took_back k p None = took_bare k p
-took_back k p (Some q) = took_due k p (set k.owners q Has) q (lent_words (get_or k.owners q Away)) (λ h. few_set k.owners q Has h (omega arith))
+took_back k p (Some q) = took_due k p (set k.owners q Has) q (lent_words (get_or k.owners q Away)) (λ h. few_set k.owners q Has h (omega arith)) (length-set k.owners q Has)
 
 took_held : (k : Kept) (p : List ℕ) (at : Option Loan) → ((a : Loan) → at ≡ Some a → a.words ≤ 512) → TookPages k (holds_now k p at) p
 took_held k p None inside = took_bare k p
 took_held k p (Some a) inside =
     at_cond (λ j. TookPages k j p) (may_hold (id_of p) (get_or k.owners a.page Has)) (with_due k (set k.owners a.page (Held (id_of p) a.words)) a.page a.words) (with_took k p)
-    (λ t. took_due k p (set k.owners a.page (Held (id_of p) a.words)) a.page a.words (λ h. few_set k.owners a.page (Held (id_of p) a.words) h (inside a refl))) (λ f. took_bare k p)
+    (λ t. took_due k p (set k.owners a.page (Held (id_of p) a.words)) a.page a.words (λ h. few_set k.owners a.page (Held (id_of p) a.words) h (inside a refl)) (length-set k.owners a.page (Held (id_of p) a.words))) (λ f. took_bare k p)
 
 pub took_pages : (c : ℕ) (k : Kept) (p : List ℕ) → k.count ≢ 0 → TookPages k (pages_took (layout c) k p) p
 took_pages c k p some =
@@ -193,7 +197,7 @@ pub stores_tell : (s t : EndState) (q : ℕ) (ws : List ℕ) (told told' : Optio
 stores_tell s t q ws (Some u) told' memory memory' ran = ap is_some (ran.tells u refl)
 stores_tell s t q ws None told' memory memory' ran = ap is_some (ran.silent refl)
 
-newest_more : (ps : List (List ℕ)) (p : List ℕ) → newest (ps ++ p ∷ []) ≡ p
+pub newest_more : (ps : List (List ℕ)) (p : List ℕ) → newest (ps ++ p ∷ []) ≡ p
 newest_more [] p = refl
 newest_more (q ∷ []) p = refl
 newest_more (q ∷ r ∷ ps) p = newest_tail q r (ps ++ p ∷ []) ∙ newest_more (r ∷ ps) p
@@ -203,6 +207,7 @@ pub record TakenPages (k k' : Kept) (p ws : List ℕ) : Type 0 where
   pub count : k'.count ≡ k.count
   pub sent : k'.sent ≡ k.sent
   pub held : AreFew k.owners → AreFew k'.owners
+  pub listed : length k'.owners ≡ length k.owners
   pub clear : IsClear k'
   pub few : length ws ≤ 512
   pub none : k.count ≡ 0 → (ws ≡ []) × (k'.got ≡ k.got)
@@ -212,6 +217,8 @@ pub record TakenPages (k k' : Kept) (p ws : List ℕ) : Type 0 where
 pub record TakenWhole {S : Type 0} (told : S → Option Told) (same : S → S → Type 0) (k : Kept) (p : List ℕ) (mid new : Seen S) : Type 0 where
   pub words : List ℕ
   pub pages : TakenPages k new.state.pages p words
+  pub owners : new.state.pages.owners ≡ mid.state.pages.owners
+  pub items : new.state.pages.sent ≡ mid.state.pages.sent
   pub tells : is_some (told new.seat) ≡ is_some (told mid.seat)
   pub packets_room : mid.spare_got.packets ≤ new.spare_got.packets + page_places k.count 1
   pub words_room : mid.spare_got.words ≤ new.spare_got.words + page_words k.count 1
@@ -229,6 +236,8 @@ module _ {S : Type 0} (told : S → Option Told) (memory : S → Option Memory) 
       subst (TakenWhole told same k p mid) (sym e) (record {
         words = ws;
         pages = pages;
+        owners = refl;
+        items = refl;
         tells = refl;
         packets_room = omega arith;
         words_room = omega arith;
@@ -243,7 +252,7 @@ module _ {S : Type 0} (told : S → Option Told) (memory : S → Option Memory) 
   -- in a channel without data pages
   without : k.count ≡ 0 → mid.state.pages ≡ k → new ≡ mid → TakenWhole told same k p mid new
   without none pages e =
-      stays [] (subst (λ x. TakenPages k x p []) (sym pages) (record { count = refl; sent = refl; held = λ h. h; clear = λ some. absurd (some none); few = omega arith; none = λ _. (refl, refl); some = λ some. absurd (some none) })) e
+      stays [] (subst (λ x. TakenPages k x p []) (sym pages) (record { count = refl; sent = refl; held = λ h. h; listed = refl; clear = λ some. absurd (some none); few = omega arith; none = λ _. (refl, refl); some = λ some. absurd (some none) })) e
 
   -- and in one with some
   with_some : k.count ≢ 0 → k.due ≡ Clear → TookPages k mid.state.pages p → Loads S told memory same mid new → TakenWhole told same k p mid new
@@ -251,7 +260,7 @@ module _ {S : Type 0} (told : S → Option Told) (memory : S → Option Memory) 
     where
       by : ((mid.state.pages.due ≡ k.due) × (mid.state.pages.got ≡ k.got ++ item_of p [] ∷ [])) ⊎ ((q : ℕ) × (n : ℕ) × (mid.state.pages.due ≡ DueLoads q n 0) × (mid.state.pages.got ≡ k.got)) → TakenWhole told same k p mid new
       by (inl bare) =
-          stays [] (record { count = took.count; sent = took.sent; held = took.held; clear = λ _. bare.0 ∙ clear; few = omega arith; none = λ z. absurd (some z); some = λ _. bare.1 }) (loads.none (bare.0 ∙ clear))
+          stays [] (record { count = took.count; sent = took.sent; held = took.held; listed = took.listed; clear = λ _. bare.0 ∙ clear; few = omega arith; none = λ z. absurd (some z); some = λ _. bare.1 }) (loads.none (bare.0 ∙ clear))
       by (inr due) =
           let q : ℕ = due.0 in
           let n : ℕ = due.1 in
@@ -267,11 +276,14 @@ module _ {S : Type 0} (told : S → Option Told) (memory : S → Option Memory) 
               count = same_ws.count ∙ took.count;
               sent = same_ws.sent ∙ took.sent;
               held = λ h. subst AreFew (sym same_ws.owners) (took.held h);
+              listed = ap length same_ws.owners ∙ took.listed;
               clear = λ _. run.clear;
               few = omega (arith, run.long, all.1);
               none = λ z. absurd (some z);
               some = λ _. loads.items (λ c. not_clear q n (sym c ∙ due.2)) ∙ (λ j. due.3 j ++ item_of (is j) ws ∷ []);
             };
+            owners = same_ws.owners;
+            items = same_ws.sent;
             tells = ran_tells mid.state new.state (LoadWords q n 0) (told mid.seat) (told new.seat) (memory mid.seat) (memory new.seat) run.ran;
             packets_room = omega (arith, run.room.0, places_some k.count 1 some);
             words_room = omega (arith, run.room.1, all.1, words_some k.count 1 some);

@@ -39,6 +39,7 @@ use Rattle.io_edge.specs.declared.side.Side.{Side}
 use Rattle.io_edge.specs.declared.side.Side.TheVariants.{Guest, Host}
 use Rattle.ring_core.specs.Pages.{IsClear}
 use Rattle.worker_port.specs.Line.{AreFew, HasItems, IsLine, Line, Tries, new_end, paged_end, tried_of, armed_by, look_of, polled_by, words_at}
+use Rattle.page_table.proofs.Moves.{first_long}
 use Rattle.worker_port.proofs.PageLaws.{no_words}
 use Rattle.worker_port.proofs.SendLaws.{Carried}
 
@@ -50,6 +51,7 @@ items_on old new pages sent got h = record {
   none = subst (λ (k : Pages). k.count ≡ 0 → (k.sent ≡ []) × (k.got ≡ [])) (sym pages) h.none;
   few = subst (λ (k : Pages). (i : ℕ) → length (words_at k.got i) ≤ 512) (sym pages) h.few;
   held = subst (λ (k : Pages). AreFew k.owners) (sym pages) h.held;
+  listed = subst (λ (k : Pages). length k.owners ≡ k.count) (sym pages) h.listed;
 }
 
 pub quiet_items : {S : Type 0} (old new : Seen S) → Kept old new → HasItems old.state → HasItems new.state
@@ -116,7 +118,7 @@ sent_line told old new p tells honest leaves call after past sent got cells page
       committed = after.start (λ e. cc) ∙ (h.committed ∙ sym (after.read (λ e. cc)));
       mark = after.unmarked (λ e. cc) ∙ (sym unmarked ∙ (h.mark ∙ sym (ap has_marked past ∙ sent_mark new.state.machine.ended new.state.machine.saw p old.state.past call)));
       size = subst (λ n. (512 ≤ n) × (n ≤ 16777216)) (sym cells) h.size;
-      pages = record { clear = clear; items = items clear; none = none; few = λ i. subst (λ (is : List Item). length (words_at is i) ≤ 512) (sym pages.got) (h.pages.few i); held = pages.held h.pages.held };
+      pages = record { clear = clear; items = items clear; none = none; few = λ i. subst (λ (is : List Item). length (words_at is i) ≤ 512) (sym pages.got) (h.pages.few i); held = pages.held h.pages.held; listed = pages.listed ∙ (h.pages.listed ∙ sym pages.count) };
     }
 
 abbrev tried_stage : Tried → Stage
@@ -139,6 +141,13 @@ tries_at TriedBroken e at awake unmarked = record { stopped = at; awake = awake;
 pub tries : {S : Type 0} (old : EndMachine) (e : Line S) (r : Result Signalled SendRefusal) → Leaves old e.state.machine → call_by e.state.machine.ended ≡ Send → r ≡ send_answer e.state.machine.ended e.state.machine → e.state.machine.asleep ≡ false
     → e.state.machine.marked ≡ false → Tries (tried_of r) e
 tries old e r leaves call is awake unmarked = tries_at (tried_of r) e (leaves.stage ∙ stage_tried e.state.machine.ended e.state.machine r call is) awake unmarked
+
+pub was_sent : (how : Ending) (m : EndMachine) (r : Result Signalled SendRefusal) → call_by how ≡ Send → r ≡ send_answer how m → tried_of r ≡ TriedSent → is_sent how ≡ true
+was_sent SentQuiet m r call is sent = refl
+was_sent SentRaised m r call is sent = refl
+was_sent Full m r call is sent = absurd (let not : TriedFull ≡ TriedSent = sym (ap tried_of is) ∙ sent in cc)
+was_sent BadPeer m r call is sent = absurd (let not : TriedBroken ≡ TriedSent = sym (ap tried_of is) ∙ sent in cc)
+was_sent _ m r call is sent = absurd (cc)
 
 pub not_sent : (how : Ending) (m : EndMachine) (r : Result Signalled SendRefusal) → call_by how ≡ Send → r ≡ send_answer how m → (tried_of r ≡ TriedSent → ⊥) → is_sent how ≡ false
 not_sent SentQuiet m r call is none = absurd (none (ap tried_of is))
@@ -354,6 +363,7 @@ new_line told e fresh size = record {
     none = λ _. (ap (λ s. s.pages.sent) fresh, ap (λ s. s.pages.got) fresh);
     few = λ i. omega (arith, ap (λ s. length (words_at s.pages.got i)) fresh, ap length (no_words i));
     held = subst (λ s. AreFew s.pages.owners) (sym fresh) (few_owners e.state.machine.side e.state.pages.count);
+    listed = ap (λ s. length s.pages.owners) fresh ∙ first_long e.state.machine.side e.state.pages.count;
   };
 }
   where

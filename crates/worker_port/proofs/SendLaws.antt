@@ -16,14 +16,14 @@ use Rattle.worker_port.proofs.ItemLaws.{Grows, SentAs}
 use Rattle.worker_port.proofs.PageLaws.{by_count, is_more, is_zero, laid_is, sent_pages}
 
 -- all but the copy stays
-record Stored (k l : Kept) : Type 0 where
-  count : l.count ≡ k.count
-  sent : l.sent ≡ k.sent
-  got : l.got ≡ k.got
-  owners : l.owners ≡ k.owners
-  due : l.due ≡ k.due
+pub record Stored (k l : Kept) : Type 0 where
+  pub count : l.count ≡ k.count
+  pub sent : l.sent ≡ k.sent
+  pub got : l.got ≡ k.got
+  pub owners : l.owners ≡ k.owners
+  pub due : l.due ≡ k.due
 
-stored : (k l : Kept) (p ws : List ℕ) → l ≡ laid k p ws → Stored k l
+pub stored : (k l : Kept) (p ws : List ℕ) → l ≡ laid k p ws → Stored k l
 stored k l p ws e =
     let all : l ≡ record { count = k.count; sent = k.sent; got = k.got; owners = k.owners; copy = (laid k p ws).copy; due = k.due; call = k.call } = e ∙ laid_is k (part_in k.owners p) ws in
     record { count = ap (λ x. x.count) all; sent = ap (λ x. x.sent) all; got = ap (λ x. x.got) all; owners = ap (λ x. x.owners) all; due = ap (λ x. x.due) all }
@@ -34,13 +34,14 @@ pub record Carried (k k' : Kept) : Type 0 where
   pub got : k'.got ≡ k.got
   pub due : k'.due ≡ k.due
   pub held : AreFew k.owners → AreFew k'.owners
+  pub listed : length k'.owners ≡ length k.owners
 
 module _ (k l k' : Kept) (p ws : List ℕ) (e : l ≡ laid k p ws) where
   s : Stored k l
   s = stored k l p ws e
 
   unsent : k' ≡ l → Carried k k'
-  unsent is = record { count = ap (λ x. x.count) is ∙ s.count; got = ap (λ x. x.got) is ∙ s.got; due = ap (λ x. x.due) is ∙ s.due; held = λ h. subst AreFew (sym (ap (λ x. x.owners) is ∙ s.owners)) h }
+  unsent is = record { count = ap (λ x. x.count) is ∙ s.count; got = ap (λ x. x.got) is ∙ s.got; due = ap (λ x. x.due) is ∙ s.due; held = λ h. subst AreFew (sym (ap (λ x. x.owners) is ∙ s.owners)) h; listed = ap (λ x. length x.owners) is ∙ ap length s.owners }
 
   pub carried : (b : Bool) → k' ≡ cond b (pages_sent (layout l.count) l p) l → Carried k k'
   carried false is = unsent is
@@ -53,6 +54,7 @@ module _ (k l k' : Kept) (p ws : List ℕ) (e : l ≡ laid k p ws) where
         got = ap (λ x. x.got) is ∙ (t.got ∙ s.got);
         due = ap (λ x. x.due) is ∙ (t.due ∙ s.due);
         held = λ h. subst AreFew (sym (ap (λ x. x.owners) is)) (t.held (subst AreFew (sym s.owners) h));
+        listed = ap (λ x. length x.owners) is ∙ (t.listed ∙ ap length s.owners);
       })
 
   -- nothing was sent

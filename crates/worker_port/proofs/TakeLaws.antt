@@ -1,5 +1,5 @@
 -- What a worker knows of its end after a take.
-use Rattle.std.proofs.Common.{◌≡◌, ◌≢◌, ◌≤◌, ℕ, zero, suc, List, [], ◌∷◌, ◌++◌, length, Option, Some, None, Bool, true, false, cond, inl, inr, refl, sym, ap, ◌∙◌, subst}
+use Rattle.std.proofs.Common.{◌≡◌, ◌≢◌, ◌≤◌, ◌==◌, ℕ, zero, suc, List, [], ◌∷◌, ◌++◌, length, Option, Some, None, Bool, true, false, cond, inl, inr, refl, sym, ap, ◌∙◌, subst}
 use Rattle.std.specs.Prelude.{slice_get, is_some}
 use Rattle.channel_trace.specs.declared.event.Event.{Event}
 use Rattle.channel_trace.specs.declared.event.Event.TheVariants.{Got}
@@ -34,7 +34,11 @@ use Rattle.worker_port.specs.Tries.{FoundNone}
 use Rattle.worker_port.specs.Line.{AreFew, Finds, IsLine, Line, LineState, TookOne, found_of, got_as, has_packet, line_of, past_as, words_at}
 use Rattle.worker_port.proofs.ItemLaws.{Grows, found_past, got_more, got_same_as, past_finds, past_got}
 use Rattle.worker_port.proofs.PortLaws.{items_on}
-use Rattle.worker_port.proofs.PageLaws.{TakenPages, TakenWhole, by_count, few_more}
+use Rattle.pkt_desc.specs.Packets.{kind_of, id_of}
+use Rattle.page_home_laws.specs.Home.{closed}
+use Rattle.worker_port.specs.Homes.{HasHome, KeepsHome, TakesHome}
+use Rattle.worker_port.proofs.HomeLaws.{home_taken}
+use Rattle.worker_port.proofs.PageLaws.{TakenPages, TakenWhole, by_count, few_more, newest_more}
 
 untook : (took : Bool) (r other : TakeRefusal) → Some r ≡ cond took None (Some other) → took ≡ false
 untook true r other e = absurd (cc)
@@ -151,6 +155,15 @@ packets_more [] w k h (suc i) p e = absurd (cc)
 packets_more (q ∷ ps) w k h zero p e = h zero p e
 packets_more (q ∷ ps) w k h (suc i) p e = packets_more ps w k (λ j x f. h (suc j) x f) i p e
 
+last_same : {X : Type 0} (xs : List X) (a b : X) → xs ++ a ∷ [] ≡ xs ++ b ∷ [] → a ≡ b
+last_same [] a b e = cc
+last_same (x ∷ xs) a b e = last_same xs a b (cc)
+
+pub takes_none : {S : Type 0} (f : Found) (old new : Line S) → (f ≡ FoundPacket → ⊥) → KeepsHome old.end.state new.end.state → TakesHome f old new
+takes_none FoundPacket old new not h = absurd (not refl)
+takes_none FoundNothing old new not h = h
+takes_none FoundBroken old new not h = h
+
 -- a commit adds nothing to what the end did
 pub commit_past : (how : Ending) (saw : Bool) (past : List (Event (List ℕ))) → call_by how ≡ Commit → past_of how saw [] past ≡ past
 commit_past CommittedQuiet saw past e = refl
@@ -211,6 +224,10 @@ module _ {S : Type 0} {told : S → Option Told} {memory : S → Option Memory} 
       pages = items_on old.state new.state pages takes.kept.0 (t.refused none).0 h.pages;
     }
 
+    -- the packets stay
+    pub refused_list : new.state.got ≡ old.state.got
+    refused_list = (t.refused none).0
+
     -- the pages stay
     pub refused_pages : new.state.pages ≡ cond (is_took m.ended) (pages_took (layout old.state.pages.count) old.state.pages (newest new.state.got)) old.state.pages → new.state.pages ≡ old.state.pages
     refused_pages is = is ∙ other_of (is_took m.ended) (pages_took (layout old.state.pages.count) old.state.pages (newest new.state.got)) old.state.pages none
@@ -260,6 +277,17 @@ module _ {S : Type 0} {told : S → Option Told} {memory : S → Option Memory} 
       pub taken_got : got_as f new.state ≡ got_as f old.state ++ f (item_of gets.words w.words) ∷ []
       taken_got = got_more f old new gets.words w.words grown
 
+    -- a completion closes its id
+    pub taken_home : (f : Item → Item) → ((i : Item) → (f i).packet ≡ i.packet) → mid.state.pages ≡ pages_took (layout old.state.pages.count) old.state.pages (newest mid.state.got) → new.state.machine.side ≡ whole.state.machine.side
+        → TakesHome FoundPacket (line_of f old) (line_of f new)
+    taken_home f packet took side = λ is_open i is more.
+        let p : List ℕ = gets.words in
+        let same : i ≡ f (item_of p w.words) = last_same (got_as f old.state) i (f (item_of p w.words)) (sym is ∙ taken_got f) in
+        let named : i.packet ≡ p = ap (λ x. x.packet) same ∙ packet (item_of p w.words) in
+        subst (λ q. HasHome (cond (kind_of q == 11) (closed is_open (id_of q)) is_open) new.state) (sym named)
+        (home_taken old.state new.state mid.state.pages p h.pages.listed (took ∙ ap (pages_took (layout old.state.pages.count) old.state.pages) (ap newest gets.list ∙ newest_more old.state.got p))
+        (side ∙ (ap (λ m. m.side) w.machine ∙ takes.side)) took_list taken_count (ap (λ k. k.sent) kept.pages ∙ w.items) (ap (λ k. k.owners) kept.pages ∙ w.owners) is_open more)
+
     pub one_taken : old.state.machine.marked ≡ false → LeavesBy Commit whole.state.machine new.state.machine → new.state.machine.cells ≡ whole.state.machine.cells
         → (IsClear whole.state.pages → whole.state.pages.count ≢ 0 → (packets_of whole.state.pages.sent ≡ whole.state.sent) × (packets_of whole.state.pages.got ≡ whole.state.got))
         → (whole.state.pages.count ≡ 0 → (whole.state.pages.sent ≡ []) × (whole.state.pages.got ≡ [])) → IsLine told new
@@ -273,7 +301,7 @@ module _ {S : Type 0} {told : S → Option Told} {memory : S → Option Memory} 
       committed = after.committed refl;
       mark = after.unmarked (λ e. cc) ∙ (sym unmarked ∙ (h.mark ∙ ap has_marked (sym took_events)));
       size = subst (λ n. (512 ≤ n) × (n ≤ 16777216)) (sym (cells ∙ (ap (λ m. m.cells) w.machine ∙ takes.cells))) h.size;
-      pages = items_on whole.state new.state kept.pages kept.sent kept.got (record { clear = tp.clear; items = items tp.clear; none = none; few = few_whole; held = tp.held h.pages.held });
+      pages = items_on whole.state new.state kept.pages kept.sent kept.got (record { clear = tp.clear; items = items tp.clear; none = none; few = few_whole; held = tp.held h.pages.held; listed = tp.listed ∙ (h.pages.listed ∙ sym tp.count) });
     }
       where
         few_whole : (i : ℕ) → length (words_at whole.state.pages.got i) ≤ 512

@@ -3,3 +3,4 @@ pub mod Line
 pub mod Tries
 pub mod Owed
 pub mod Causes
+pub mod Homes

@@ -110,6 +110,7 @@ pub record HasItems (e : EndState) : Type 0 where
   pub none : e.pages.count ≡ 0 → (e.pages.sent ≡ []) × (e.pages.got ≡ [])
   pub few : (i : ℕ) → length (words_at e.pages.got i) ≤ 512
   pub held : AreFew e.pages.owners
+  pub listed : length e.pages.owners ≡ e.pages.count
 
 -- Between two calls of a worker: the list of what was got is that of the end's past, the cells of each packet in it were given back, and each packet has its page
 -- words. No call is under way; where the end sleeps, or the seat tells the end's state, the end isn't stopped

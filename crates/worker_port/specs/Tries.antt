@@ -25,6 +25,12 @@ pub record LaidOnce {S : Type 0} (told : S → Option Told) (memory : S → Opti
 abbrev pub TriedOnce : {S : Type 0} → (S → Option Told) → (S → Option Memory) → List ℕ → Seen S → Seen S → Type 0
 TriedOnce told memory p old new = MakesSteps told memory (send_begun old.state.machine (length p)) p old new
 
+-- it stored these page words for this packet, and tried once to send it
+pub record TriedWith {S : Type 0} (told : S → Option Told) (memory : S → Option Memory) (p words : List ℕ) (old new : Seen S) : Type 0 where
+  pub laid : Seen S
+  pub lays : LaidOnce told memory p words old laid
+  pub tried : TriedOnce told memory p laid new
+
 -- it marked itself
 abbrev pub MarkedOnce : {S : Type 0} → (S → Option Told) → (S → Option Memory) → Seen S → Seen S → Type 0
 MarkedOnce told memory old new = MakesSteps told memory (mark_begun old.state.machine) [] old new
@@ -38,9 +44,11 @@ pub record FoundNone {S : Type 0} (told : S → Option Told) (memory : S → Opt
   pub looked : LookedOnce told memory old new
   pub none : new.state.machine.ended ≡ Empty
 
--- it tried once to send this packet, for which the ring had too little room
+-- it tried once to send this packet with some page words, none in a channel without data pages, for which the ring had too little room
 pub record FoundFull {S : Type 0} (told : S → Option Told) (memory : S → Option Memory) (p : List ℕ) (old new : Seen S) : Type 0 where
-  pub tried : TriedOnce told memory p old new
+  pub words : List ℕ
+  pub bare : old.state.pages.count ≡ 0 → words ≡ []
+  pub tried : TriedWith told memory p words old new
   pub full : new.state.machine.ended ≡ Full
 
 -- its look for a packet found none, its try to send this packet found too little room, and then it marked itself: these three calls and no others

@@ -3,6 +3,7 @@ ghost use Rattle.std.specs.Prelude.{◌≡◌, ◌<◌, ◌≤◌, ◌+◌, ◌*
 ghost use Rattle.page_kept.specs.declared.item.Item.{Item};
 ghost use Rattle.page_kept.specs.Items.{item_of};
 ghost use Rattle.channel_protocol.specs.Listed.{answer_in, message_in};
+ghost use Rattle.channel_protocol.specs.Paged.{Lays, LaysSome, words_lent};
 ghost use Rattle.channel_model.specs.WireFormat.{under_own};
 ghost use Rattle.ring_machine.specs.States.{IsPacket};
 ghost use Rattle.worker_port.specs.Owed.{is_nil, FitsReply, LaysOn, LaysSomeOn};
@@ -100,9 +101,12 @@ impl PacketBuffer {
     /// Writes the k-th request of a protocol under an id.
     pub fn encode<T: Protocol>(&mut self, protocol: &T, k: u32, id: u64)
         requires which { k < length (T.asks protocol.now) }
+        requires id { T.lends protocol.now ≡ true → id ≤ 64 }
         ensures value { (a : T.Ask) (i : Item) → slice_get (T.asks protocol.now) k ≡ Some a → LaysOn self.new i → T.said i ≡ (T.format protocol.now).encode id a }
         ensures packet { IsPacket self.new.packet }
         ensures most { length self.new.packet ≤ 384 }
+        ensures lent { T.lends protocol.now ≡ true → self.new.lent ≡ words_lent self.new.packet }
+        ensures fits { length self.new.words ≤ self.new.lent }
         ensures none { T.lends protocol.now ≡ false → (self.new.words ≡ []) × (self.new.lent ≡ 0) }
     {
         self.spread = protocol.encode(k, id, self.words.as_mut_slice(), self.page.as_mut_slice());
@@ -113,6 +117,7 @@ impl PacketBuffer {
         requires packet { IsPacket packet.now }
         requires message { (i : Item) × (i.packet ≡ packet.now) × ((T.format protocol.now).is_message i ≡ true) }
         ensures value { (i : Item) → i.packet ≡ packet.now → (T.format protocol.now).is_message i ≡ true → item_of self.new.packet [] ≡ (T.format protocol.now).ack i }
+        ensures back { T.lends protocol.now ≡ true → (i j : Item) → i.packet ≡ packet.now → (T.format protocol.now).is_message i ≡ true → j.packet ≡ self.new.packet → T.said j ≡ (T.format protocol.now).ack i }
         ensures packet { IsPacket self.new.packet }
         ensures most { length self.new.packet ≤ 384 }
         ensures none { (self.new.words ≡ []) × (self.new.lent ≡ 0) }
@@ -135,7 +140,10 @@ impl PacketBuffer {
     )
         requires packet { IsPacket packet.now }
         requires words { length words.now ≤ 512 }
+        requires own { T.lends protocol.now ≡ true → own ≤ 64 }
         ensures value { LaysSomeOn T.said self.new (message_in own ((T.format protocol.now).fixed (T.said (item_of packet.now words.now)))) }
+        ensures lent { T.lends protocol.now ≡ true → self.new.lent ≡ words_lent self.new.packet }
+        ensures fits { length self.new.words ≤ self.new.lent }
         ensures none { T.lends protocol.now ≡ false → (self.new.words ≡ []) × (self.new.lent ≡ 0) }
     {
         self.spread = protocol.write_fixed_message(
@@ -152,6 +160,7 @@ impl PacketBuffer {
         requires packet { IsPacket packet.now }
         requires words { length words.now ≤ 512 }
         ensures value { LaysSomeOn T.said self.new (answer_in ((T.format protocol.now).fixed (T.said (item_of packet.now words.now)))) }
+        ensures back { T.lends protocol.now ≡ true → (n : ℕ) → LaysSome T.said self.new.packet [] n (answer_in ((T.format protocol.now).fixed (T.said (item_of packet.now words.now)))) }
         ensures none { (self.new.words ≡ []) × (self.new.lent ≡ 0) }
     {
         let packet = protocol.write_fixed(packet, words, self.words.as_mut_slice());
@@ -174,7 +183,10 @@ impl PacketBuffer {
         requires packet { IsPacket packet.now }
         requires words { length words.now ≤ 512 }
         requires fits { FitsReply (T.format protocol.now) (T.said (item_of packet.now words.now)) reply.now }
+        requires own { T.lends protocol.now ≡ true → own ≤ 64 }
         ensures value { LaysSomeOn T.said self.new (under_own own ((T.format protocol.now).gives (T.said (item_of packet.now words.now)) reply.now).message) }
+        ensures lent { T.lends protocol.now ≡ true → self.new.lent ≡ words_lent self.new.packet }
+        ensures fits { length self.new.words ≤ self.new.lent }
         ensures none { T.lends protocol.now ≡ false → (self.new.words ≡ []) × (self.new.lent ≡ 0) }
     {
         self.spread = protocol.write_message(
@@ -201,7 +213,10 @@ impl PacketBuffer {
         requires head { T.is_head protocol.now (T.said (item_of packet.now words.now)) head.now }
         requires fits { FitsReply (T.format protocol.now) (T.said (item_of packet.now words.now)) reply.now }
         ensures value { (i : Item) → LaysOn self.new i → T.said i ≡ ((T.format protocol.now).gives (T.said (item_of packet.now words.now)) reply.now).answer }
+        ensures back { T.lends protocol.now ≡ true → (n : ℕ) (i : Item) → self.new.lent ≤ n → Lays self.new.packet self.new.words n i → T.said i ≡ ((T.format protocol.now).gives (T.said (item_of packet.now words.now)) reply.now).answer }
         ensures packet { IsPacket self.new.packet }
+        ensures within { self.new.lent ≤ length (T.said (item_of packet.now words.now)).words }
+        ensures fits { length self.new.words ≤ self.new.lent }
         ensures none { T.lends protocol.now ≡ false → (self.new.words ≡ []) × (self.new.lent ≡ 0) }
     {
         self.spread = protocol.write_answer(

@@ -1,22 +1,26 @@
 //! One end of a channel, as its worker uses it.
-ghost use Rattle.std.specs.Prelude.{◌≡◌, ◌≢◌, ◌<◌, ◌≤◌, ◌-◌, ◌+◌, ◌*◌, ◌^◌, ◌++◌, [], ◌∷◌, ℕ, List, true, false, not, length, slice_get, is_some, Some, IfOk, OnOk, MatchOption, if◌then◌else◌};
+ghost use Rattle.std.specs.Prelude.{◌≡◌, ◌≢◌, ◌<◌, ◌≤◌, ◌-◌, ◌+◌, ◌*◌, ◌^◌, ◌++◌, ◌==◌, [], ◌∷◌, ℕ, Bool, List, true, false, not, length, slice_get, is_some, map, Some, IfOk, OnOk, MatchOption, if◌then◌else◌};
 ghost use Rattle.channel_trace.specs.declared.event.Event.TheVariants.{Marked};
-ghost use Rattle.channel_trace.specs.Runs.{got_of, has_marked};
+ghost use Rattle.channel_trace.specs.Runs.{got_of, has_marked, sent_of};
 ghost use Rattle.ring_machine.specs.Endings.{want_of};
 ghost use Rattle.ring_machine.specs.declared.machine.Stage.TheVariants.{Idle};
 ghost use Rattle.worker_port.specs.declared.found.Tried.TheVariants.{Sent as SentTry, Full as FullTry, Broken as BrokenTry};
 ghost use Rattle.worker_port.specs.declared.found.Found.TheVariants.{Packet as PacketFind, Nothing as NothingFind, Broken as BrokenFind};
 ghost use Rattle.ring_machine.specs.declared.machine.Ending.TheVariants.{Full as EndedFull};
-ghost use Rattle.ring_machine.specs.States.{IsPacket};
+ghost use Rattle.ring_machine.specs.States.{IsPacket, MayLend};
 ghost use Rattle.worker_port.specs.Owed.{HasSendRoom, IsNeed, LacksSendOf};
 ghost use Rattle.worker_port.specs.Rooms.{GotInto, KeepsRoom, SentInto};
 ghost use Rattle.page_kept.specs.declared.item.Item.{Item};
-ghost use Rattle.page_kept.specs.Items.{item_of};
+ghost use Rattle.page_kept.specs.Items.{item_of, packets};
 ghost use Rattle.channel_protocol.specs.Paged.{Lays};
 ghost use Rattle.worker_port.specs.Line.{paged_end, page_words, words_at, CanLay, IsLine, line_of, item_sent, past_as, IsBroken, IsReady, Tries, Finds, past_tried, Stays, TookOne, looked, look_of, is_asleep, armed_by, polled_by, PolledOnce, HasTakeRoom, LacksTake};
-ghost use Rattle.worker_port.specs.Tries.{ArmedOnce, FoundNone, LaidOnce, MarkedOnce, TriedOnce};
-ghost use Rattle.ring_core.specs.Pages.{along};
-ghost use Rattle.ring_core.specs.Seen.{Seen};
+ghost use Rattle.worker_port.specs.Homes.{HasHome, KeepsHome, SendsHome, TakesHome};
+ghost use Rattle.page_home_laws.specs.Home.{LendsItsOwn};
+ghost use Rattle.page_kept.specs.Layouts.{layout};
+ghost use Rattle.pkt_desc.specs.Packets.{id_of, kind_of};
+ghost use Rattle.worker_port.specs.Tries.{ArmedOnce, FoundNone, MarkedOnce, TriedWith};
+ghost use Rattle.ring_core.specs.Pages.{along, IsClear};
+ghost use Rattle.ring_core.specs.declared.told.Told.{Told};
 
 use crate::carry::{lay_all, load_all};
 use crate::found::{Found, Tried, found_by, has_packet, tried_by};
@@ -88,6 +92,7 @@ impl<T: Protocol, S: Parks + Drop> Port<T, S> {
         ensures end { IfOk result (λ p. (p.end.state ≡ end.state) × (p.end.seat ≡ end.seat) × (p.seat ≡ end.seat)) }
         ensures new { IfOk result (λ p. (p.state.past ≡ []) × (p.state.got ≡ []) × (p.state.machine ≡ end.state.machine)) }
         ensures room { IfOk result (λ p. KeepsRoom packets p) }
+        ensures home { IfOk result (λ p. HasHome (λ t. false) p.end.state) }
     {
         let mut port = Port::over(end);
         let cells = port.cells() as u64;
@@ -169,6 +174,26 @@ impl<T: Protocol, S: Parks + Drop> Port<T, S> {
         self.end.pages()
     }
 
+    /// A law, and the call does nothing: of the pages, a request may be sent under an id that isn't open, where it lends the page of its id or none.
+    pub fn lends_what_is_closed(&self)
+        ensures { (is_open : ℕ → Bool) (p : List ℕ) → HasHome is_open self.now.end.state → (kind_of p == 11) ≡ false → is_open (id_of p) ≡ false → LendsItsOwn (layout self.now.end.state.pages.count) self.now.end.state.machine.side p → MayLend self.now.end.state p }
+    {
+        let _ = &self.end;
+    }
+
+    /// A law, and the call does nothing: nothing is due, in a channel with data pages what it sent and got is what its pages' items are read as, and what its
+    /// seat tells is the end's state.
+    pub fn stands_on_pages(&self)
+        ensures clear { IsClear self.now.end.state.pages }
+        ensures items { self.now.end.state.pages.count ≢ 0 → (packets self.now.end.state.pages.sent ≡ self.now.end.state.sent) × (packets self.now.end.state.pages.got ≡ self.now.end.state.got) }
+        ensures read { self.now.end.state.pages.count ≢ 0 → (sent_of self.now.state.past ≡ map T.said self.now.end.state.pages.sent) × (got_of self.now.state.past ≡ map T.said self.now.end.state.pages.got) }
+        ensures listed { length self.now.end.state.pages.owners ≡ self.now.end.state.pages.count }
+        ensures got { got_of self.now.state.past ≡ self.now.state.got }
+        ensures told { (u : Told) → S.told self.now.seat ≡ Some u → u.state ≡ self.now.end.state }
+    {
+        self.end.items_fit();
+    }
+
     /// Whether it sleeps until its signal is up.
     pub fn is_asleep(&self) -> bool
         ensures { result ≡ self.now.state.machine.asleep }
@@ -245,9 +270,9 @@ impl<T: Protocol, S: Parks + Drop> Port<T, S> {
         ensures unmarked { has_marked self.old.state.past ≡ false }
         ensures unsent { result ≢ SentTry → self.new.spare_sent ≡ self.old.spare_sent }
         ensures found { result ≡ FullTry → (self.new.state.machine.room ≤ length packet.now + 1) × (self.new.state.machine.words ≡ length packet.now) }
-        ensures laid { (l : Seen S) × LaidOnce S.told S.memory packet.now words.now self.old.end l × TriedOnce S.told S.memory packet.now l self.new.end }
-        ensures tried { words.now ≡ [] → TriedOnce S.told S.memory packet.now self.old.end self.new.end }
+        ensures tried { TriedWith S.told S.memory packet.now words.now self.old.end self.new.end }
         ensures full { result ≡ FullTry → self.new.end.state.machine.ended ≡ EndedFull }
+        ensures home { SendsHome result packet.now self.old.end.state self.new.end.state }
         ensures into { SentInto (length packet.now) self.old self.new }
     {
         lay_all(&mut self.end, packet, words);
@@ -269,6 +294,7 @@ impl<T: Protocol, S: Parks + Drop> Port<T, S> {
         ensures sent { self.new.spare_sent ≡ self.old.spare_sent }
         ensures none { result ≢ PacketFind → (self.new.state.got ≡ self.old.state.got) × (self.new.spare_got ≡ self.old.spare_got) }
         ensures looked { result ≡ NothingFind → FoundNone S.told S.memory self.old.end self.new.end }
+        ensures home { TakesHome result self.old self.new }
         ensures into { GotInto self.old self.new }
     {
         let found = found_by(self.end.take_in());
@@ -297,6 +323,7 @@ impl<T: Protocol, S: Parks + Drop> Port<T, S> {
         ensures once { ArmedOnce S.told S.memory want self.old.end self.new.end }
         ensures unmarked { self.new.state.machine.marked ≡ false }
         ensures want { self.new.state.machine.asleep ≡ true → self.new.state.machine.want ≡ want_of want }
+        ensures home { KeepsHome self.old.end.state self.new.end.state }
         ensures stays { Stays S.channel S.told self.old self.new }
         ensures lists { (self.new.state.got ≡ self.old.state.got) × (self.new.spare_got ≡ self.old.spare_got) × (self.new.spare_sent ≡ self.old.spare_sent) }
     {
@@ -316,6 +343,7 @@ impl<T: Protocol, S: Parks + Drop> Port<T, S> {
         ensures want { self.new.state.machine.asleep ≡ true → self.new.state.machine.want ≡ self.old.state.machine.want }
         ensures unmarked { self.new.state.machine.marked ≡ false }
         ensures past { self.new.state.past ≡ self.old.state.past }
+        ensures home { KeepsHome self.old.end.state self.new.end.state }
         ensures stays { Stays S.channel S.told self.old self.new }
         ensures lists { (self.new.state.got ≡ self.old.state.got) × (self.new.spare_got ≡ self.old.spare_got) × (self.new.spare_sent ≡ self.old.spare_sent) }
     {
@@ -328,6 +356,7 @@ impl<T: Protocol, S: Parks + Drop> Port<T, S> {
         requires unmarked { self.old.state.machine.marked ≡ false }
         ensures ready { IsReady self.new }
         ensures past { self.new.state.past ≡ self.old.state.past }
+        ensures home { KeepsHome self.old.end.state self.new.end.state }
         ensures stays { Stays S.channel S.told self.old self.new }
         ensures lists { (self.new.state.got ≡ self.old.state.got) × (self.new.spare_got ≡ self.old.spare_got) × (self.new.spare_sent ≡ self.old.spare_sent) }
     {
@@ -345,6 +374,7 @@ impl<T: Protocol, S: Parks + Drop> Port<T, S> {
         ensures first { has_marked self.old.state.past ≡ false }
         ensures found { (self.new.state.machine.room ≡ self.old.state.machine.room) × (self.new.state.machine.words ≡ self.old.state.machine.words) }
         ensures got { got_of self.new.state.past ≡ self.new.state.got }
+        ensures home { KeepsHome self.old.end.state self.new.end.state }
         ensures stays { Stays S.channel S.told self.old self.new }
         ensures lists { (self.new.state.got ≡ self.old.state.got) × (self.new.spare_got ≡ self.old.spare_got) × (self.new.spare_sent ≡ self.old.spare_sent) }
     {

@@ -170,7 +170,7 @@ some_ask (Some o) e = refl
 
 module _ {T S A Q R : Type 0} (s : WireFormat Item A Q R) (asks : List A) (w : Asking T S R) where
   -- the request that waits goes under an id that is free among those that were sent
-  goes_free : (id : ℕ) (a : A) (p : Item) → w.waiting ≡ Some id → slice_get asks w.next ≡ Some a → s.id_of p ≡ id → IsAsking s asks w → GoesFree s (length w.table) asks p w.end.state.past
+  pub goes_free : (id : ℕ) (a : A) (p : Item) → w.waiting ≡ Some id → slice_get asks w.next ≡ Some a → s.id_of p ≡ id → IsAsking s asks w → GoesFree s (length w.table) asks p w.end.state.past
   goes_free id a p waits at own h =
       let os : List (ℕ × A) = open_of s asks w.end.state.past in
       let here : waits_in (drop w.next asks) w.waiting ≡ (id, a) ∷ [] = ap (waits_in (drop w.next asks)) waits ∙ ap (λ l. waits_in l (Some id)) (first_of asks w.next a at) in

@@ -5,6 +5,8 @@ use Rattle.std.specs.List.{count_by}
 use Rattle.channel_trace.specs.declared.event.Event.{Event}
 use Rattle.channel_trace.specs.declared.event.Event.TheVariants.{Sent, Got, Empty, Marked as EventMarked, Saw}
 use Rattle.channel_trace.specs.Runs.{sent_of, got_of, has_marked, has_seen}
+use Rattle.io_edge.specs.declared.side.Side.TheVariants.{Guest}
+use Rattle.ring_machine.specs.declared.state.EndState.{EndState}
 use Rattle.ring_core.specs.declared.told.Told.{Told}
 use Rattle.ring_core.specs.Seen.{Seen}
 use Rattle.ring_core.specs.Told.{Memory}
@@ -70,6 +72,10 @@ abbrev pub id_in : Option ℕ → ℕ
 id_in None = 0
 id_in (Some id) = id
 
+-- a request with an answer is open under this id
+abbrev pub is_open_in : {A Q R : Type 0} → WireFormat Item A Q R → List A → List (Event Item) → ℕ → Bool
+is_open_in s asks past id = is_some (under s id (open_of s asks past))
+
 -- each packet that came was looked at, and each message acknowledged
 abbrev pub HasAcked : {T S R : Type 0} → Asking T S R → Type 0
 HasAcked w = w.acked ≡ length w.end.state.got
@@ -125,6 +131,13 @@ pub record LeavesAcks {S A Q R : Type 0} (s : WireFormat Item A Q R) (e : Line S
   pub left : List Item
   pub acks : acks_for s (got_of e.state.past) ≡ filter s.is_ack (sent_of e.state.past) ++ left
   pub full : (left ≡ []) ⊎ MetFull left e
+
+-- a channel has the data pages that a protocol uses whose requests have ids up to so many: none where its packets lend none; else one for each id, and the end that
+-- asks is the guest's
+pub record FitsPages (lends : Bool) (window : ℕ) (e : EndState) : Type 0 where
+  pub bare : lends ≡ false → e.pages.count ≡ 0
+  pub enough : lends ≡ true → window ≤ e.pages.count
+  pub guest : lends ≡ true → e.machine.side ≡ Guest
 
 -- while this end isn't marked
 pub record IsAsking {T S A Q R : Type 0} (s : WireFormat Item A Q R) (asks : List A) (w : Asking T S R) : Type 0 where

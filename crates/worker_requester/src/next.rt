@@ -12,7 +12,6 @@ pub(crate) fn next_message<T: Protocol, S: Parks + Drop>(
     port: &Port<T, S>,
     from: usize,
 ) -> usize
-    requires pages { port.now.end.state.pages.count ≡ 0 }
     requires from { from ≤ length port.now.state.got }
     ensures { IsNext (T.format protocol.now) port.now.state.got from result }
 {

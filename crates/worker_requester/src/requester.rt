@@ -11,13 +11,14 @@ ghost use Rattle.worker_port.specs.Causes.{Arms, Polls};
 ghost use Rattle.worker_port.specs.declared.found.Found.TheVariants.{Nothing as NothingFound, Broken as BrokenFound};
 ghost use Rattle.worker_requester.specs.declared.requester.Asked.TheVariants.{Broken as BrokenAsked};
 ghost use Rattle.worker_requester.specs.Causes.{AskCause, AskerActs, AsksOne, AsksOrArms};
-ghost use Rattle.worker_port.specs.Line.{new_end, line_of, past_as, IsLine, Finds, IsBroken, IsReady, IsSameEnd, HasTakeRoom, TookOne};
-ghost use Rattle.worker_requester.specs.Asking.{AsksBy, AskTurns, AskedFrom, EndsAcked, EverTried, AckTried, HeldAcks, HeldTried, HoldTried, IsPaced, LeavesAcks, AskLacks, AskerLacks, AsksOn, AskEnds, Holds, HasAcked, HasMessage, HasOpen, HasSettled, StandsAsked, TurnTried, waits_under, want_by, AskedBy};
+ghost use Rattle.worker_port.specs.Line.{paged_end, line_of, past_as, IsLine, Finds, IsBroken, IsReady, IsSameEnd, HasTakeRoom, TookOne};
+ghost use Rattle.worker_requester.specs.Asking.{FitsPages, AsksBy, AskTurns, AskedFrom, EndsAcked, EverTried, AckTried, HeldAcks, HeldTried, HoldTried, IsPaced, LeavesAcks, AskLacks, AskerLacks, AsksOn, AskEnds, Holds, HasAcked, HasMessage, HasOpen, HasSettled, StandsAsked, TurnTried, waits_under, want_by, AskedBy};
 ghost use Rattle.worker_port.specs.Rooms.{AskedWithin, AskLacksFor, KeepsRoom, broke, is_broken};
 ghost use Rattle.txn_table.specs.Open.{HasNone};
+ghost use Rattle.worker_port.specs.Homes.{HasHome};
 ghost use Rattle.channel_model.specs.Amounts.{room_of};
 
-use crate::came::came_before;
+use crate::came::{Came, came_before};
 use crate::lists::Lists;
 use crate::next::next_message;
 use crate::settle::settle;
@@ -81,7 +82,8 @@ pub struct Requester<T: Protocol, S: Parks> {
 
 impl<T: Protocol, S: Parks> Model for Requester<T, S> {
     ghost use Rattle.std.specs.Prelude.{◌≡◌, ◌≤◌, ◌+◌, ◌-◌, false, length, count_by, is_some, vec_len, vec_capacity};
-    ghost use Rattle.worker_requester.specs.Asking.{Asking, IsAsking, pending};
+    ghost use Rattle.worker_requester.specs.Asking.{Asking, FitsPages, IsAsking, is_open_in, pending};
+    ghost use Rattle.worker_port.specs.Homes.{HasHome};
     ghost use Rattle.worker_port.specs.Rooms.{KeepsRoom};
     ghost use Rattle.channel_model.specs.Amounts.{room_of};
 
@@ -89,7 +91,7 @@ impl<T: Protocol, S: Parks> Model for Requester<T, S> {
 
     ghost view = { λ w. record { protocol = w.protocol; end = w.port; table = w.table; next = w.next; waiting = w.waiting; acked = w.acked; told = w.replies.items; starts = w.starts; seen = w.seen; hold = w.hold; relid = w.relid } };
 
-    ghost invariant = { λ w. w.port.state.machine.marked ≡ false → record { bare : T.lends w.protocol ≡ false; pages : w.port.end.state.pages.count ≡ 0; live : IsAsking (T.format w.protocol) (T.asks w.protocol) (record { protocol = w.protocol; end = w.port; table = w.table; next = w.next; waiting = w.waiting; acked = w.acked; told = w.replies.items; starts = w.starts; seen = w.seen; hold = w.hold; relid = w.relid }); replies : vec_len w.replies + count_by is_some w.table + (length (T.asks w.protocol) - w.next) ≤ vec_capacity w.replies + pending w.waiting; spare : vec_len w.rescinded + length w.table ≤ vec_capacity w.rescinded; size : length w.table ≤ 64; room : KeepsRoom (room_of (T.besides w.protocol) (length (T.asks w.protocol))) w.port; side : w.side ≡ w.port.state.machine.side } };
+    ghost invariant = { λ w. w.port.state.machine.marked ≡ false → record { pages : FitsPages (T.lends w.protocol) (length w.table) w.port.end.state; home : HasHome (is_open_in (T.format w.protocol) (T.asks w.protocol) w.port.state.past) w.port.end.state; live : IsAsking (T.format w.protocol) (T.asks w.protocol) (record { protocol = w.protocol; end = w.port; table = w.table; next = w.next; waiting = w.waiting; acked = w.acked; told = w.replies.items; starts = w.starts; seen = w.seen; hold = w.hold; relid = w.relid }); replies : vec_len w.replies + count_by is_some w.table + (length (T.asks w.protocol) - w.next) ≤ vec_capacity w.replies + pending w.waiting; spare : vec_len w.rescinded + length w.table ≤ vec_capacity w.rescinded; size : length w.table ≤ 64; room : KeepsRoom (room_of (T.besides w.protocol) (length (T.asks w.protocol))) w.port; side : w.side ≡ w.port.state.machine.side } };
 }
 
 /// What an asking worker gives once it has ended.
@@ -117,6 +119,7 @@ impl<T: Protocol, S: Parks + Drop> Requester<T, S> {
         match self.port.take() {
             Found::Packet => {
                 let packet = self.port.last();
+                let words = self.port.last_words();
                 if !self.protocol.is_answer(packet) {
                     return Found::Packet;
                 }
@@ -130,7 +133,7 @@ impl<T: Protocol, S: Parks + Drop> Requester<T, S> {
                     &mut self.table,
                     &mut self.replies,
                     before,
-                    packet,
+                    Came { packet, words },
                 );
                 Found::Packet
             }
@@ -171,6 +174,7 @@ impl<T: Protocol, S: Parks + Drop> Requester<T, S> {
         prove!(self.acked < came);
         self.buffer
             .write_ack(&self.protocol, self.port.got(self.acked));
+        self.port.stands_on_pages();
         let packet = self.buffer.packet();
         if let Some(room) = self.port.lacks_send(packet) {
             return Asked::Lacks {
@@ -228,15 +232,17 @@ impl<T: Protocol, S: Parks + Drop> Requester<T, S> {
     {
         let count = self.protocol.count();
         prove!(self.next < count);
+        self.port.lends_what_is_closed();
         self.buffer.encode(&self.protocol, self.next, id);
         let packet = self.buffer.packet();
+        let words = self.buffer.page();
         if let Some(room) = self.port.lacks_send(packet) {
             return Asked::Lacks {
                 packets: room.packets,
                 words: room.words,
             };
         }
-        match self.port.send(packet, &[]) {
+        match self.port.send(packet, words) {
             Tried::Sent => {
                 self.next += 1;
                 self.waiting = None;
@@ -269,15 +275,17 @@ impl<T: Protocol, S: Parks + Drop> Requester<T, S> {
     {
         let count = self.protocol.count();
         prove!(self.next < count);
+        self.port.stands_on_pages();
         self.buffer.encode(&self.protocol, self.next, 0);
         let packet = self.buffer.packet();
+        let words = self.buffer.page();
         if let Some(room) = self.port.lacks_send(packet) {
             return Asked::Lacks {
                 packets: room.packets,
                 words: room.words,
             };
         }
-        match self.port.send(packet, &[]) {
+        match self.port.send(packet, words) {
             Tried::Sent => {
                 self.next += 1;
                 self.passed = false;
@@ -557,7 +565,8 @@ impl<T: Protocol, S: Parks + Drop> Requester<T, S> {
         Turn::Idle
     }
 
-    /// A worker over a new end, that has at most `window` requests open. It takes all its memory here: room for as many packets as it has asks, each way, and
+    /// A worker over a new end, that has at most `window` requests open. Where its packets lend data pages, the channel has at least one for each of them, and the end is
+    /// the guest's; else the channel has none. It takes all its memory here: room for as many packets as it has asks, each way, and
     /// for as many messages and what acknowledges them, where there are messages.
     pub fn make(
         alloc: Global,
@@ -568,10 +577,10 @@ impl<T: Protocol, S: Parks + Drop> Requester<T, S> {
         window: u32,
     ) -> Result<Requester<T, S>, AllocError>
         requires window { (1 ≤ window) × (window ≤ 64) }
-        requires fresh { end.state ≡ new_end end.state.machine.cells end.state.machine.side }
+        requires fresh { end.state ≡ paged_end end.state.pages.count end.state.machine.cells end.state.machine.side }
         requires size { (512 ≤ end.state.machine.cells) × (end.state.machine.cells ≤ 16777216) }
         requires side { side ≡ end.state.machine.side }
-        requires bare { T.lends protocol ≡ false }
+        requires pages { FitsPages (T.lends protocol) window end.state }
         ensures protocol { IfOk result (λ w. w.protocol ≡ protocol) }
         ensures relid { IfOk result (λ w. w.relid ≡ relid) }
         ensures starts { IfOk result (λ w. w.starts ≡ T.starts protocol) }
@@ -608,8 +617,8 @@ impl<T: Protocol, S: Parks + Drop> Requester<T, S> {
     ) -> Requester<T, S>
         requires fresh { (port.state.past ≡ []) × (port.state.got ≡ []) × (port.state.machine.asleep ≡ false) }
         requires side { side ≡ port.state.machine.side }
-        requires bare { T.lends protocol ≡ false }
-        requires pages { port.end.state.pages.count ≡ 0 }
+        requires pages { FitsPages (T.lends protocol) (length lists.table) port.end.state }
+        requires home { HasHome (λ t. false) port.end.state }
         requires room { KeepsRoom (room_of (T.besides protocol) (length (T.asks protocol))) port }
         requires window { (window : ℕ) × (window ≤ 64) × (lists.table ≡ replicate window None) }
         requires none { lists.replies.items ≡ [] }

@@ -2,3 +2,6 @@ pub mod OwedLaws
 pub mod ResponderLaws
 pub mod OwnLaws
 pub mod ServeSteps
+pub mod PageLaws
+pub mod PageSteps
+pub mod TableLaws

@@ -1,82 +1,157 @@
--- What is written where no page is lent, as items.
-use Rattle.std.proofs.Common.{◌≡◌, ℕ, ◌<◌, ◌≤◌, List, [], ◌∷◌, ◌++◌, length, refl, sym, ap, ◌∙◌, arith, Option, Some, None, Bool, true, false, inl, inr}
-use Rattle.std.specs.Prelude.{◌&&◌, ◌⊎◌, drop}
+-- What is owed, as it is written and as it is read.
+use Rattle.std.proofs.Common.{◌≡◌, ℕ, ◌-◌, ◌<◌, ◌≤◌, List, [], ◌∷◌, ◌++◌, length, length-append, refl, sym, ap, ◌∙◌, subst, arith, Option, Some, None, true, false}
+use Rattle.std.specs.Prelude.{◌&&◌, drop, replicate}
+use Rattle.std.proofs.lemmas.List.{length-replicate}
+use Rattle.std.proofs.Math.Seq.{take-append_seam}
 use Rattle.page_kept.specs.declared.item.Item.{Item}
-use Rattle.page_kept.specs.Items.{item_of}
 use Rattle.channel_model.specs.WireFormat.{Back, listed, packets_in, packets_of, under_own}
 use Rattle.channel_protocol.specs.Listed.{answer_in, message_in}
+use Rattle.channel_protocol.specs.Paged.{Lays, LaysSome}
 use Rattle.worker_port.specs.Owed.{LaysOn, LaysSomeOn, Written, is_nil}
-use Rattle.worker_port.proofs.ItemSteps.{laid_is, lays_bare}
-use Rattle.worker_server.specs.Serving.{items_of}
+use Rattle.worker_server.specs.Sheets.{AreBare, BringBack, BringsBack, if_written, item_on, read_all, sheets_of}
 
-one_item : (p : List ℕ) → 0 < length p → items_of p ≡ item_of p [] ∷ []
-one_item [] some = absurd (omega (arith, some))
-one_item (w ∷ ws) some = refl
+few_written : (p : List ℕ) (o : Written) → length (if_written p o) ≤ 1
+few_written [] o = omega arith
+few_written (w ∷ ws) o = omega arith
 
-few_items : (p : List ℕ) → length (items_of p) ≤ 1
-few_items [] = omega arith
-few_items (w ∷ ws) = omega arith
-
-pub both_few : (p q : List ℕ) → length (items_of p ++ items_of q) ≤ 2
-both_few [] q = omega (arith, few_items q)
-both_few (w ∷ ws) q = omega (arith, few_items q)
+pub both_few : (m a : Written) → length (sheets_of m ++ sheets_of a) ≤ 2
+both_few m a = omega (arith, length-append (sheets_of m) (sheets_of a), few_written m.packet m, few_written a.packet a)
 
 -- what is owed first, and what is left of it
-pub both_nil : (m a : List ℕ) → (is_nil m && is_nil a) ≡ is_nil (items_of m ++ items_of a)
-both_nil [] [] = refl
-both_nil [] (w ∷ ws) = refl
-both_nil (w ∷ ws) a = refl
+pub both_nil : (p q : List ℕ) (m a : Written) → (is_nil p && is_nil q) ≡ is_nil (if_written p m ++ if_written q a)
+both_nil [] [] m a = refl
+both_nil [] (w ∷ ws) m a = refl
+both_nil (w ∷ ws) q m a = refl
 
-pub both_clear : (m a : List ℕ) → (is_nil m && is_nil a) ≡ true → items_of m ++ items_of a ≡ []
-both_clear [] [] e = refl
-both_clear [] (w ∷ ws) e = absurd (cc)
-both_clear (w ∷ ws) a e = absurd (cc)
+pub both_clear : (p q : List ℕ) (m a : Written) → (is_nil p && is_nil q) ≡ true → if_written p m ++ if_written q a ≡ []
+both_clear [] [] m a e = refl
+both_clear [] (w ∷ ws) m a e = absurd (cc)
+both_clear (w ∷ ws) q m a e = absurd (cc)
 
-pub first_answer : (m a r : List ℕ) → is_nil m ≡ true → is_nil (items_of m ++ items_of a) ≡ false → r ≡ a → items_of m ++ items_of a ≡ item_of r [] ∷ drop 1 (items_of m ++ items_of a)
-first_answer [] [] r e some is = absurd (cc)
-first_answer [] (w ∷ ws) r e some is = ap (λ (x : List ℕ). item_of x [] ∷ []) (sym is)
-first_answer (w ∷ ws) a r e some is = absurd (cc)
+pub first_answer : (p q : List ℕ) (m a : Written) → is_nil p ≡ true → is_nil (if_written p m ++ if_written q a) ≡ false → if_written p m ++ if_written q a ≡ a ∷ drop 1 (if_written p m ++ if_written q a)
+first_answer [] [] m a e some = absurd (cc)
+first_answer [] (w ∷ ws) m a e some = refl
+first_answer (w ∷ ws) q m a e some = absurd (cc)
 
-pub first_message : (m a r : List ℕ) → is_nil m ≡ false → r ≡ m → items_of m ++ items_of a ≡ item_of r [] ∷ drop 1 (items_of m ++ items_of a)
-first_message [] a r e is = absurd (cc)
-first_message (w ∷ ws) a r e is = ap (λ (x : List ℕ). item_of x [] ∷ items_of a) (sym is)
+pub first_message : (p q : List ℕ) (m a : Written) → is_nil p ≡ false → if_written p m ++ if_written q a ≡ m ∷ drop 1 (if_written p m ++ if_written q a)
+first_message [] q m a e = absurd (cc)
+first_message (w ∷ ws) q m a e = refl
 
-pub some_answer : (m a : List ℕ) → is_nil m ≡ true → is_nil (items_of m ++ items_of a) ≡ false → is_nil a ≡ false
-some_answer [] [] e some = absurd (cc)
-some_answer [] (w ∷ ws) e some = refl
-some_answer (w ∷ ws) a e some = absurd (cc)
+pub some_answer : (p q : List ℕ) (m a : Written) → is_nil p ≡ true → is_nil (if_written p m ++ if_written q a) ≡ false → is_nil q ≡ false
+some_answer [] [] m a e some = absurd (cc)
+some_answer [] (w ∷ ws) m a e some = refl
+some_answer (w ∷ ws) q m a e some = absurd (cc)
 
-pub is_there : {P : Type 0} (b : Bool) → b ≡ false → (b ≡ true) ⊎ P → P
-is_there b e (inl none) = absurd (cc)
-is_there b e (inr there) = there
+pub pop_answer : (p q q' : List ℕ) (m a a' : Written) → is_nil p ≡ true → q' ≡ [] → if_written p m ++ if_written q' a' ≡ drop 1 (if_written p m ++ if_written q a)
+pop_answer [] [] q' m a a' e is = ap (λ l. if_written l a') is
+pop_answer [] (w ∷ ws) q' m a a' e is = ap (λ l. if_written l a') is
+pop_answer (w ∷ ws) q q' m a a' e is = absurd (cc)
 
-pub pop_answer : (m a a' : List ℕ) → is_nil m ≡ true → a' ≡ [] → items_of m ++ items_of a' ≡ drop 1 (items_of m ++ items_of a)
-pop_answer [] [] a' e is = ap items_of is
-pop_answer [] (w ∷ ws) a' e is = ap items_of is
-pop_answer (w ∷ ws) a a' e is = absurd (cc)
+pub pop_message : (p p' q : List ℕ) (m m' a : Written) → is_nil p ≡ false → p' ≡ [] → if_written p' m' ++ if_written q a ≡ drop 1 (if_written p m ++ if_written q a)
+pop_message [] p' q m m' a e is = absurd (cc)
+pop_message (w ∷ ws) p' q m m' a e is = ap (λ l. if_written l m' ++ if_written q a) is
 
-pub pop_message : (m a m' : List ℕ) → is_nil m ≡ false → m' ≡ [] → items_of m' ++ items_of a ≡ drop 1 (items_of m ++ items_of a)
-pop_message [] a m' e is = absurd (cc)
-pop_message (w ∷ ws) a m' e is = ap (λ (x : List ℕ). items_of x ++ items_of a) is
+-- no page words
+bare_written : (p : List ℕ) (o : Written) → (o.words ≡ []) × (o.lent ≡ 0) → AreBare (if_written p o)
+bare_written [] o none = tt
+bare_written (w ∷ ws) o none = (none, tt)
+
+bare_append : (os ps : List Written) → AreBare os → AreBare ps → AreBare (os ++ ps)
+bare_append [] ps h k = k
+bare_append (o ∷ os) ps h k = (h.0, bare_append os ps h.1 k)
+
+pub both_bare : (m a : Written) → (m.words ≡ []) × (m.lent ≡ 0) → (a.words ≡ []) × (a.lent ≡ 0) → AreBare (sheets_of m ++ sheets_of a)
+both_bare m a none none' = bare_append (sheets_of m) (sheets_of a) (bare_written m.packet m none) (bare_written a.packet a none')
+
+pub drop_bare : (os : List Written) → AreBare os → AreBare (drop 1 os)
+drop_bare [] h = tt
+drop_bare (o ∷ os) h = h.1
+
+-- an item of these words
+pub lays_on : (o : Written) → length o.words ≤ o.lent → LaysOn o (item_on o)
+lays_on o le = record {
+  packet_is = refl;
+  words_are = take-append_seam o.words (replicate (o.lent - length o.words) 0);
+  long = omega (arith, le, length-append o.words (replicate (o.lent - length o.words) 0), (let none : ℕ = 0 in length-replicate (o.lent - length o.words) none));
+}
+
+some_there : {P : Type 0} (p : List ℕ) → 0 < length p → ((w : ℕ) (ws : List ℕ) → p ≡ w ∷ ws → P) → P
+some_there [] some f = absurd (omega (arith, some))
+some_there (w ∷ ws) some f = f w ws refl
 
 both_back : (own : ℕ) (o : Option (Back Item)) → listed (message_in own o) ++ listed (answer_in o) ≡ packets_in own o
 both_back own None = refl
 both_back own (Some b) = refl
 
-module _ (said : Item → Item) (bare : (p : List ℕ) → said (item_of p []) ≡ item_of p []) where
-  one_is : (w : Written) (j : Item) → (w.words ≡ []) × (w.lent ≡ 0) → 0 < length w.packet → ((i : Item) → LaysOn w i → said i ≡ j) → items_of w.packet ≡ j ∷ []
-  one_is w j none some value = one_item w.packet some ∙ ap (λ (x : Item). x ∷ []) (sym (bare w.packet) ∙ laid_is said w w.packet (item_of w.packet []) j refl none (lays_bare w.packet) value)
+module _ (said : Item → Item) where
+  pub read_append : (os ps : List Written) → read_all said (os ++ ps) ≡ read_all said os ++ read_all said ps
+  read_append [] ps = refl
+  read_append (o ∷ os) ps = ap (λ (l : List Item). said (item_on o) ∷ l) (read_append os ps)
 
-  some_is : (w : Written) (o : Option Item) → (w.words ≡ []) × (w.lent ≡ 0) → LaysSomeOn said w o → items_of w.packet ≡ listed o
-  some_is w None none h = ap items_of h
-  some_is w (Some j) none h = one_is w j none h.0 h.1
+  pub read_drop : (os : List Written) → read_all said (drop 1 os) ≡ drop 1 (read_all said os)
+  read_drop [] = refl
+  read_drop (o ∷ os) = refl
+
+  pub read_nil : (os : List Written) → is_nil (read_all said os) ≡ is_nil os
+  read_nil [] = refl
+  read_nil (o ∷ os) = refl
+
+  pub read_long : (os : List Written) → length (read_all said os) ≡ length os
+  read_long [] = refl
+  read_long (o ∷ os) = omega (arith, read_long os)
+
+  pub read_clear : (os : List Written) → read_all said os ≡ [] → os ≡ []
+  read_clear [] e = refl
+  read_clear (o ∷ os) e = absurd (cc)
+
+  pub bare_clear : (os : List Written) → read_all said os ≡ [] → AreBare os
+  bare_clear [] e = tt
+  bare_clear (o ∷ os) e = absurd (cc)
+
+  written_is : (o : Written) (j : Item) → 0 < length o.packet → length o.words ≤ o.lent → ((i : Item) → LaysOn o i → said i ≡ j) → read_all said (sheets_of o) ≡ j ∷ []
+  written_is o j some le value = some_there o.packet some (λ w ws e. ap (λ l. read_all said (if_written l o)) e ∙ ap (λ (x : Item). x ∷ []) (value (item_on o) (lays_on o le)))
+
+  some_is : (o : Written) (j : Option Item) → length o.words ≤ o.lent → LaysSomeOn said o j → read_all said (sheets_of o) ≡ listed j
+  some_is o None le h = ap (λ l. read_all said (if_written l o)) h
+  some_is o (Some j) le h = written_is o j h.0 le h.1
 
   -- what goes back for a packet that asks nothing of the device
-  pub fixed_is : (own : ℕ) (m a : Written) (o : Option (Back Item)) → (m.words ≡ []) × (m.lent ≡ 0) → (a.words ≡ []) × (a.lent ≡ 0) → LaysSomeOn said m (message_in own o) → LaysSomeOn said a (answer_in o)
-      → items_of m.packet ++ items_of a.packet ≡ packets_in own o
-  fixed_is own m a o none none' message answer = (λ i. some_is m (message_in own o) none message i ++ some_is a (answer_in o) none' answer i) ∙ both_back own o
+  pub fixed_is : (own : ℕ) (m a : Written) (o : Option (Back Item)) → length m.words ≤ m.lent → length a.words ≤ a.lent → LaysSomeOn said m (message_in own o) → LaysSomeOn said a (answer_in o)
+      → read_all said (sheets_of m ++ sheets_of a) ≡ packets_in own o
+  fixed_is own m a o le le' message answer =
+      read_append (sheets_of m) (sheets_of a) ∙ ((λ i. some_is m (message_in own o) le message i ++ some_is a (answer_in o) le' answer i) ∙ both_back own o)
 
   -- and with the device's reply
-  pub reply_is : (own : ℕ) (m a : Written) (b : Back Item) → (m.words ≡ []) × (m.lent ≡ 0) → (a.words ≡ []) × (a.lent ≡ 0) → LaysSomeOn said m (under_own own b.message) → 0 < length a.packet → ((i : Item) → LaysOn a i → said i ≡ b.answer)
-      → items_of m.packet ++ items_of a.packet ≡ packets_of own b
-  reply_is own m a b none none' message some answer = (λ i. some_is m (under_own own b.message) none message i ++ one_is a b.answer none' some answer i)
+  pub reply_is : (own : ℕ) (m a : Written) (b : Back Item) → length m.words ≤ m.lent → length a.words ≤ a.lent → LaysSomeOn said m (under_own own b.message) → 0 < length a.packet → ((i : Item) → LaysOn a i → said i ≡ b.answer)
+      → read_all said (sheets_of m ++ sheets_of a) ≡ packets_of own b
+  reply_is own m a b le le' message some answer =
+      read_append (sheets_of m) (sheets_of a) ∙ (λ i. some_is m (under_own own b.message) le message i ++ written_is a b.answer some le' answer i)
+
+  -- what goes back alone
+  bring_one : (p : List ℕ) (most : ℕ) (a : Written) → (0 < length p → BringsBack said most a) → BringBack said most (if_written p a)
+  bring_one [] most a h = tt
+  bring_one (w ∷ ws) most a h = h (omega arith)
+
+  alone : (most : ℕ) (m a : Written) → m.packet ≡ [] → BringBack said most (sheets_of a) → BringBack said most (sheets_of m ++ sheets_of a)
+  alone most m a none h = subst (λ l. BringBack said most (if_written l m ++ sheets_of a)) (sym none) h
+
+  none_of : (own : ℕ) (m : Written) (o : Option (ℕ → Item)) → o ≡ None → LaysSomeOn said m (under_own own o) → m.packet ≡ []
+  none_of own m None e h = h
+  none_of own m (Some f) e h = absurd (cc)
+
+  pub reply_back : (own most : ℕ) (m a : Written) (b : Back Item) → b.message ≡ None → LaysSomeOn said m (under_own own b.message) → length a.words ≤ a.lent → a.lent ≤ most
+      → ((i : Item) → LaysOn a i → said i ≡ b.answer) → ((n : ℕ) (i : Item) → a.lent ≤ n → Lays a.packet a.words n i → said i ≡ b.answer) → BringBack said most (sheets_of m ++ sheets_of a)
+  reply_back own most m a b none message le within value back =
+      alone most m a (none_of own m b.message none message)
+      (bring_one a.packet most a (λ some. record { within = within; whole = λ n i more lays. back n i more lays ∙ sym (value (item_on a) (lays_on a le)) }))
+
+  pub fixed_back : (own most : ℕ) (m a : Written) (o : Option (Back Item)) → ((b : Back Item) → o ≡ Some b → b.message ≡ None) → LaysSomeOn said m (message_in own o) → (a.words ≡ []) × (a.lent ≡ 0)
+      → LaysSomeOn said a (answer_in o) → ((n : ℕ) → LaysSome said a.packet [] n (answer_in o)) → BringBack said most (sheets_of m ++ sheets_of a)
+  fixed_back own most m a None none message bare value back = alone most m a message (bring_one a.packet most a (λ some. absurd (omega (arith, some, ap length value))))
+  fixed_back own most m a (Some b) none message bare value back =
+      alone most m a (none_of own m b.message (none b refl) message)
+      (bring_one a.packet most a (λ some. record {
+        within = omega (arith, bare.1);
+        whole = λ n i more lays.
+            (back n).1 i (subst (λ (l : List ℕ). Lays a.packet l n i) bare.0 lays) ∙ sym (value.1 (item_on a) (lays_on a (omega (arith, bare.1, ap length bare.0))));
+      }))

@@ -1,15 +1,19 @@
 -- The table of the serving end's own messages.
 use Rattle.page_kept.specs.declared.item.Item.{Item}
 use Rattle.std.proofs.Common.{◌≡◌, ℕ, zero, suc, ◌≤◌, List, [], ◌∷◌, ◌++◌, length, map, filter, replicate, refl, sym, ap, ◌∙◌, arith, Option, Some, None, is_some, Bool, true, false}
-use Rattle.std.specs.Prelude.{IsSome, All, count_by, cond, ◌==◌, ◌||◌}
+use Rattle.std.specs.Prelude.{IsSome, All, count_by, cond, ◌==◌, ◌||◌, ◌&&◌}
 use Rattle.std.proofs.lemmas.List.{map-append}
 use Rattle.std.proofs.lemmas.List.Elements.{filter-append}
 use Rattle.std.proofs.lemmas.List.Sums.{sum_by-cons}
 use Rattle.txn_table.specs.Open.{request_of}
-use Rattle.worker_port.specs.Owed.{is_nil}
 use Rattle.channel_model.specs.Acks.{is_in}
 use Rattle.channel_model.specs.WireFormat.{WireFormat}
-use Rattle.worker_server.specs.Serving.{IsFull, items_of, own_in}
+use Rattle.worker_port.specs.Owed.{Written, is_nil}
+use Rattle.channel_model.proofs.Opens.{by_test}
+use Rattle.channel_model.proofs.Served.{filter_first, filter_past}
+use Rattle.worker_server.specs.Serving.{IsFull, own_in}
+use Rattle.worker_server.specs.Sheets.{if_written, item_on, read_all}
+use Rattle.worker_server.proofs.OwedLaws.{read_append}
 
 -- the ids of a table are its places, from 1 on
 pub own_within : (rs : List (Option ℕ)) (id : ℕ) → own_in rs id ≡ true → (1 ≤ id) × (id ≤ length rs)
@@ -79,6 +83,22 @@ module _ {A Q R : Type 0} (s : WireFormat Item A Q R) (id : ℕ) where
       ap (λ l. is_in id (map s.id_of l)) (filter-append s.is_message ps qs)
       ∙ (ap (is_in id) (map-append s.id_of (filter s.is_message ps) (filter s.is_message qs)) ∙ in_append id (map s.id_of (filter s.is_message ps)) (map s.id_of (filter s.is_message qs)))
 
-  pub none_under : (w : List ℕ) → is_nil w ≡ true → is_in id (map s.id_of (filter s.is_message (items_of w))) ≡ false
-  none_under [] e = refl
-  none_under (x ∷ w) e = absurd (cc)
+  pub both_read : (said : Item → Item) (os ps : List Written) → is_in id (map s.id_of (filter s.is_message (read_all said (os ++ ps)))) ≡ (is_in id (map s.id_of (filter s.is_message (read_all said os))) || is_in id (map s.id_of (filter s.is_message (read_all said ps))))
+  both_read said os ps = ap (λ l. is_in id (map s.id_of (filter s.is_message l))) (read_append said os ps) ∙ both_in (read_all said os) (read_all said ps)
+
+  pub none_under : (said : Item → Item) (p : List ℕ) (o : Written) → is_nil p ≡ true → is_in id (map s.id_of (filter s.is_message (read_all said (if_written p o)))) ≡ false
+  none_under said [] o e = refl
+  none_under said (x ∷ w) o e = absurd (cc)
+
+  one_in : (i : Item) → (s.is_message i && (s.id_of i == id)) ≡ is_in id (map s.id_of (filter s.is_message (i ∷ [])))
+  one_in i = by_test (s.is_message i)
+      (λ e. ap (λ b. b && (s.id_of i == id)) e ∙ (or_false (s.id_of i == id) ∙ ap (λ l. is_in id (map s.id_of l)) (sym (filter_first s.is_message i [] e))))
+      (λ e. ap (λ b. b && (s.id_of i == id)) e ∙ ap (λ l. is_in id (map s.id_of l)) (sym (filter_past s.is_message i [] e)))
+    where
+      or_false : (b : Bool) → b ≡ (b || false)
+      or_false true = refl
+      or_false false = refl
+
+  pub one_under : (said : Item → Item) (p : List ℕ) (o : Written) (b : Bool) (n : ℕ) → is_nil p ≡ false → b ≡ s.is_message (said (item_on o)) → n ≡ s.id_of (said (item_on o)) → (b && n == id) ≡ is_in id (map s.id_of (filter s.is_message (read_all said (if_written p o))))
+  one_under said [] o b n e is same = absurd (cc)
+  one_under said (x ∷ w) o b n e is same = (λ i. is i && same i == id) ∙ one_in (said (item_on o))

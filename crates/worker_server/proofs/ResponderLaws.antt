@@ -5,7 +5,10 @@ use Rattle.std.specs.Prelude.{IsSome, ◌<◌, ◌^◌, ◌&&◌, ◌==◌, if�
 use Rattle.std.proofs.lemmas.List.{append-nil, drop-append-le, drop_all, take-append-drop, take-append-le, take_all}
 use Rattle.std.proofs.Math.Seq.{take-append_seam, drop-append_seam}
 use Rattle.hist_lock.specs.Seat.{Call}
-use Rattle.channel_model.specs.WireFormat.{WireFormat, Keeps, Back, IsBack, packets_of, packets_in}
+use Rattle.channel_model.specs.Amounts.{HasNoMessages, MayHaveMessages}
+use Rattle.channel_model.specs.WireFormat.{WireFormat, Keeps, Back, IsBack, listed, packets_of, packets_in, under_own}
+use Rattle.worker_port.specs.Owed.{Written}
+use Rattle.worker_server.specs.Sheets.{AnswerOne, BringBack, item_on, read_all}
 use Rattle.channel_model.specs.Workers.{Owes}
 use Rattle.channel_model.proofs.Acking.{owes_nothing, owes_message, owes_answer}
 use Rattle.channel_model.proofs.Opens.{by_test}
@@ -99,7 +102,7 @@ module _ {A Q R : Type 0} (s : WireFormat Item A Q R) (held : Bool) (p : Item) w
 
 module _ {A Q R : Type 0} (s : WireFormat Item A Q R) (keeps : Keeps s) where
   -- what goes back is in form
-  fixed_back : (p : Item) (b : Back Item) → s.read p ≡ None → s.fixed p ≡ Some b → IsBack s (s.id_of p) b
+  pub fixed_back : (p : Item) (b : Back Item) → s.read p ≡ None → s.fixed p ≡ Some b → IsBack s (s.id_of p) b
   fixed_back p b reads is =
       by_test (s.waits p)
       (λ e. let back = keeps.fixes p e reads in let same : back.0 ≡ b = cc (back.1, is) in subst (IsBack s (s.id_of p)) same back.2)
@@ -135,3 +138,39 @@ module _ {A Q R : Type 0} (s : WireFormat Item A Q R) (keeps : Keeps s) where
       by : (o : Option (Back Item)) → s.fixed p ≡ o → Owes s (packets_in own o) (own_in rs) (own_in rs')
       by None e = owes_nothing s (own_in rs) (own_in rs') (λ j. ap (λ t. own_in t j) (same (is ∙ ap has_message_in e)))
       by (Some b) e = owes_by (s.id_of p) own b rs rs' besides fits (fixed_back p b reads e) (sym (is ∙ ap has_message_in e)) free set same
+
+module _ {A Q R : Type 0} (s : WireFormat Item A Q R) (keeps : Keeps s) (said : Item → Item) where
+  alone_is : (own : ℕ) (b : Back Item) (m : Option (ℕ → Item)) → m ≡ None → (x : Item) → x ∷ [] ≡ listed (under_own own m) ++ b.answer ∷ [] → x ≡ b.answer
+  alone_is own b None none x e = let is : x ≡ b.answer = cc in is
+  alone_is own b (Some m) none x e = absurd (cc)
+
+  -- an answer that goes back alone
+  one_answers : (p : Item) (own : ℕ) (b : Back Item) (os : List Written) → s.waits p ≡ true → IsBack s (s.id_of p) b → b.message ≡ None → read_all said os ≡ packets_of own b → BringBack said (length p.words) os → AnswerOne said s p os
+  one_answers p own b [] waits back none read brings = tt
+  one_answers p own b (o ∷ []) waits back none read brings =
+      let is : said (item_on o) ≡ b.answer = alone_is own b b.message none (said (item_on o)) read in
+      record { waits = waits; is_answer = ap s.is_answer is ∙ back.one; same = ap s.id_of is ∙ back.same; brings = brings }
+  one_answers p own b (o ∷ q ∷ os) waits back none read brings = absurd brings
+
+  pub given_answers : (p : Item) (q : Q) (r : R) (own : ℕ) (os : List Written) → s.read p ≡ Some q → (s.gives p r).message ≡ None → read_all said os ≡ packets_of own (s.gives p r) → BringBack said (length p.words) os → AnswerOne said s p os
+  given_answers p q r own os reads none read brings =
+      let waits : s.waits p ≡ true = by_test (s.waits p) (λ e. e) (λ e. let bad : None ≡ Some q = sym (keeps.unread p e) ∙ reads in absurd (cc)) in
+      one_answers p own (s.gives p r) os waits (given_back s keeps p q r reads) none read brings
+
+  pub fixed_answers : (p : Item) (own : ℕ) (os : List Written) → s.read p ≡ None → ((b : Back Item) → s.fixed p ≡ Some b → b.message ≡ None) → read_all said os ≡ packets_in own (s.fixed p) → BringBack said (length p.words) os → AnswerOne said s p os
+  fixed_answers p own os reads none read brings = by (s.fixed p) refl
+    where
+      nothing : (os : List Written) → read_all said os ≡ [] → AnswerOne said s p os
+      nothing [] e = tt
+      nothing (o ∷ os) e = absurd (cc)
+
+      by : (o : Option (Back Item)) → s.fixed p ≡ o → AnswerOne said s p os
+      by None e = nothing os (read ∙ ap (packets_in own) e)
+      by (Some b) e =
+          let waits : s.waits p ≡ true = by_test (s.waits p) (λ w. w) (λ w. let bad : None ≡ Some b = sym (keeps.silent p w) ∙ e in absurd (cc)) in
+          one_answers p own b os waits (fixed_back s keeps p b reads e) (none b e) (read ∙ ap (packets_in own) e) brings
+
+-- where no messages go back besides the answers
+pub no_messages : {A Q R : Type 0} (s : WireFormat Item A Q R) (besides : Bool) → besides ≡ false → MayHaveMessages s besides → HasNoMessages s
+no_messages s false e may = may
+no_messages s true e may = absurd (cc)

@@ -220,7 +220,7 @@ module _ {T S E A Q R : Type 0} (s : WireFormat Item A Q R) (keeps : Keeps s) (b
 
   -- a packet that was owed was sent
   pub gave_kept : (end' : Line E) (responder' : Responder T S Q R) (p : Item) → end'.state.past ≡ Sent p ∷ w.end.state.past → w.responder.owed ≡ p ∷ drop 1 w.responder.owed
-      → responder' ≡ record w.responder { owed = drop 1 w.responder.owed } → end'.state.got ≡ w.end.state.got → end'.state.machine.asleep ≡ false → w.end.state.machine.marked ≡ false
+      → responder' ≡ record w.responder { owed = drop 1 w.responder.owed; sheets = drop 1 w.responder.sheets } → end'.state.got ≡ w.end.state.got → end'.state.machine.asleep ≡ false → w.end.state.machine.marked ≡ false
       → IsServing s besides w → IsServing s besides (record w { end = end'; responder = responder' })
   gave_kept end' responder' p is first responder got awake unmarked h =
       let k = server_gave s keeps w.responder.held w.serve w.end.state.past w.responder.calls p (drop 1 w.responder.owed) w.responder.left (drop w.served w.end.state.got)
@@ -579,7 +579,7 @@ module _ {T S E A Q R : Type 0} (sp : T → WireFormat Item A Q R) (keeps : (t :
       subst (λ d. LeavesTried told memory (sp d.protocol) (besides d.protocol) how (record w { end = end'; responder = d }) before end' d.calls) (sym responder) h
 
   pub gave_by : (end' : Line E) (responder' : Responder T S Q R) (p : Item) → end'.state.past ≡ Sent p ∷ w.end.state.past → w.responder.owed ≡ p ∷ drop 1 w.responder.owed
-      → responder' ≡ record w.responder { owed = drop 1 w.responder.owed } → end'.state.got ≡ w.end.state.got → end'.state.machine.asleep ≡ false → w.end.state.machine.marked ≡ false
+      → responder' ≡ record w.responder { owed = drop 1 w.responder.owed; sheets = drop 1 w.responder.sheets } → end'.state.got ≡ w.end.state.got → end'.state.machine.asleep ≡ false → w.end.state.machine.marked ≡ false
       → IsServing (sp w.responder.protocol) (besides w.responder.protocol) w → IsServing (sp responder'.protocol) (besides responder'.protocol) (record w { end = end'; responder = responder' })
   gave_by end' responder' p is first responder got awake unmarked h =
       subst (λ t. IsServing (sp t) (besides t) (record w { end = end'; responder = responder' })) (sym (ap (λ (d : Responder T S Q R). d.protocol) responder))

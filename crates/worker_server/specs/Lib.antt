@@ -1,2 +1,3 @@
 pub mod Serving
+pub mod Sheets
 pub mod Causes

@@ -1,6 +1,5 @@
 -- The serving worker, as contracts see it.
 use Rattle.page_kept.specs.declared.item.Item.{Item}
-use Rattle.page_kept.specs.Items.{item_of}
 use Rattle.std.specs.Prelude.{ℕ, ◌≡◌, ◌<◌, ◌≤◌, ◌+◌, ◌-◌, Bool, true, false, not, ◌&&◌, ◌==◌, ◌⊎◌, List, [], ◌∷◌, ◌++◌, length, filter, map, take, drop, slice_get, Option, Some, None, IsSome, All, is_some, if◌then◌else◌}
 use Rattle.std.specs.Option.{option_map_or}
 use Rattle.channel_trace.specs.declared.event.Event.{Event}
@@ -18,7 +17,7 @@ use Rattle.channel_model.specs.Server.{Serves}
 use Rattle.channel_model.specs.Channel.{RequestPlan, count_of, held_of, ServerEnds, ServerBreaks}
 use Rattle.channel_model.specs.Workers.{left_after, ServerKept, OwnKept}
 use Rattle.worker_port.specs.Line.{IsBroken, IsReady, IsSameEnd, LacksTake, Line, SleepsFor}
-use Rattle.worker_port.specs.Owed.{is_nil, need_of, HasSendRoom, LacksSend, MetFull}
+use Rattle.worker_port.specs.Owed.{Written, is_nil, need_of, HasSendRoom, LacksSend, MetFull}
 use Rattle.worker_port.specs.Tries.{FoundFull, LookedRested, TriedLast, TriedLookedRested}
 use Rattle.worker_port.specs.Rooms.{ServedWithin, ServeLacksFor, KeepsRoom, OnlyWith, is_asked}
 use Rattle.worker_port.specs.declared.ended.Ended.{Ended}
@@ -29,7 +28,7 @@ use Rattle.worker_server.specs.declared.put.Given.{Given}
 use Rattle.worker_server.specs.declared.put.Given.TheVariants.{Sent as GivenSent, Full as GivenFull, Lacks as GivenLacks, Broken as GivenBroken}
 
 -- the protocol, the seat with the calls that it had made before, and those of this worker and their serials, the messages of its own that are open or owed, what is
--- owed, whether the last answer is held, how many requests are still to be served, and the side and the relid that the gate is told
+-- owed, as it is read and as it is written, whether the last answer is held, how many requests are still to be served, and the side and the relid that the gate is told
 pub record Responder (T S Q R : Type 0) : Type 0 where
   pub protocol : T
   pub seat : S
@@ -37,6 +36,7 @@ pub record Responder (T S Q R : Type 0) : Type 0 where
   pub calls : List (Call Q R)
   pub table : List (Option ℕ)
   pub owed : List Item
+  pub sheets : List Written
   pub left : Option ℕ
   pub held : Bool
   pub serials : List ℕ
@@ -67,11 +67,6 @@ last_calls calls n = drop (length calls - n) calls
 -- of a seat's calls, those behind others
 abbrev pub calls_behind : {Q R : Type 0} → List (Call Q R) → List (Call Q R) → List (Call Q R)
 calls_behind before calls = drop (length before) calls
-
--- a packet as the item that it is where no page words go along; none where there are no words
-abbrev pub items_of : List ℕ → List Item
-items_of [] = []
-items_of (w ∷ ws) = item_of (w ∷ ws) [] ∷ []
 
 -- an id stands in the table
 abbrev pub own_in : List (Option ℕ) → ℕ → Bool

@@ -2,7 +2,7 @@
 ghost use Rattle.std.specs.Prelude.{◌≡◌, ◌≤◌, [], ◌∷◌, MatchOption, drop, filter, length, map, IfOk, true, false};
 ghost use Rattle.ring_machine.specs.States.{IsPacket};
 ghost use Rattle.page_kept.specs.Items.{item_of};
-ghost use Rattle.worker_server.specs.Serving.{items_of};
+ghost use Rattle.worker_server.specs.Sheets.{AreBare, BringBack, read_all, sheets_of};
 ghost use Rattle.worker_port.specs.Owed.{is_nil, FitsReply};
 ghost use Rattle.channel_model.specs.Acks.{is_in};
 ghost use Rattle.channel_model.specs.WireFormat.{packets_in, packets_of};
@@ -10,9 +10,9 @@ ghost use Rattle.channel_model.specs.WireFormat.{packets_in, packets_of};
 use channel_protocol::Protocol;
 use std::alloc::{AllocError, Global};
 use std::marker::Model;
-use worker_port::{PacketBuffer, id_read, is_message_read};
+use worker_port::PacketBuffer;
 
-/// A message and an answer, each of which may be none, and neither of which has page words. The message is sent first.
+/// A message and an answer, each of which may be none, with the page words that are stored for it. The message is sent first.
 #[derive(Drop)]
 pub(crate) struct Owed {
     message: PacketBuffer,
@@ -21,12 +21,12 @@ pub(crate) struct Owed {
 
 impl Model for Owed {
     ghost use Rattle.std.specs.Prelude.{List, ◌++◌};
-    ghost use Rattle.page_kept.specs.declared.item.Item.{Item};
-    ghost use Rattle.worker_server.specs.Serving.{items_of};
+    ghost use Rattle.worker_port.specs.Owed.{Written};
+    ghost use Rattle.worker_server.specs.Sheets.{sheets_of};
 
-    ghost Value = { List Item };
+    ghost Value = { List Written };
 
-    ghost view = { λ o. items_of o.message.packet ++ items_of o.answer.packet };
+    ghost view = { λ o. sheets_of o.message ++ sheets_of o.answer };
 }
 
 impl Owed {
@@ -46,18 +46,17 @@ impl Owed {
         self.message.is_empty() && self.answer.is_empty()
     }
 
-    // The packet that is sent next.
+    // The packet that is sent next, with its page words.
     #[tactic(auto, using(crate::proofs::OwedLaws::first_answer, crate::proofs::OwedLaws::first_message))]
-    pub(crate) fn first(&self) -> &[u64]
+    pub(crate) fn first(&self) -> &PacketBuffer
         requires { is_nil self.now ≡ false }
-        ensures value { self.now ≡ item_of result.now [] ∷ drop 1 self.now }
-        ensures packet { IsPacket result.now }
-        ensures most { length result.now ≤ 384 }
+        ensures value { self.now ≡ result.now ∷ drop 1 self.now }
+        ensures some { is_nil result.now.packet ≡ false }
     {
         if self.message.is_empty() {
-            self.answer.packet()
+            &self.answer
         } else {
-            self.message.packet()
+            &self.message
         }
     }
 
@@ -73,23 +72,32 @@ impl Owed {
     }
 
     // Whether a message is owed that goes under this id.
-    #[tactic(auto, using(crate::proofs::OwnLaws::both_in))]
     pub(crate) fn has_message<T: Protocol>(&self, protocol: &T, id: u64) -> bool
-        ensures { result ≡ is_in id (map (T.format protocol.now).id_of (filter (T.format protocol.now).is_message self.now)) }
+        ensures { result ≡ is_in id (map (T.format protocol.now).id_of (filter (T.format protocol.now).is_message (read_all T.said self.now))) }
     {
         is_message_under(protocol, &self.message, id)
             || is_message_under(protocol, &self.answer, id)
     }
 
     // What goes back for a packet that asks nothing of the device.
-    pub(crate) fn owe_fixed<T: Protocol>(&mut self, protocol: &T, packet: &[u64], own: u64)
+    pub(crate) fn owe_fixed<T: Protocol>(
+        &mut self,
+        protocol: &T,
+        packet: &[u64],
+        words: &[u64],
+        own: u64,
+    )
         requires packet { IsPacket packet.now }
-        requires bare { T.lends protocol.now ≡ false }
-        ensures value { self.new ≡ packets_in own ((T.format protocol.now).fixed (T.said (item_of packet.now []))) }
+        requires words { length words.now ≤ 512 }
+        requires own { own ≤ 64 }
+        ensures value { read_all T.said self.new ≡ packets_in own ((T.format protocol.now).fixed (T.said (item_of packet.now words.now))) }
         ensures few { length self.new ≤ 2 }
+        ensures bare { T.lends protocol.now ≡ false → AreBare self.new }
+        ensures back { T.lends protocol.now ≡ true → T.besides protocol.now ≡ false → BringBack T.said (length (T.said (item_of packet.now words.now)).words) self.new }
     {
-        self.message.write_fixed_message(protocol, packet, &[], own);
-        self.answer.write_fixed(protocol, packet, &[]);
+        self.message
+            .write_fixed_message(protocol, packet, words, own);
+        self.answer.write_fixed(protocol, packet, words);
     }
 
     // What goes back with the device's reply.
@@ -97,30 +105,35 @@ impl Owed {
         &mut self,
         protocol: &T,
         packet: &[u64],
+        words: &[u64],
         head: &T::Head,
         reply: &T::Reply,
         own: u64,
     )
         requires packet { IsPacket packet.now }
-        requires head { T.is_head protocol.now (T.said (item_of packet.now [])) head.now }
-        requires fits { FitsReply (T.format protocol.now) (T.said (item_of packet.now [])) reply.now }
-        requires bare { T.lends protocol.now ≡ false }
-        ensures value { self.new ≡ packets_of own ((T.format protocol.now).gives (T.said (item_of packet.now [])) reply.now) }
+        requires words { length words.now ≤ 512 }
+        requires head { T.is_head protocol.now (T.said (item_of packet.now words.now)) head.now }
+        requires fits { FitsReply (T.format protocol.now) (T.said (item_of packet.now words.now)) reply.now }
+        requires own { own ≤ 64 }
+        ensures value { read_all T.said self.new ≡ packets_of own ((T.format protocol.now).gives (T.said (item_of packet.now words.now)) reply.now) }
         ensures few { length self.new ≤ 2 }
+        ensures bare { T.lends protocol.now ≡ false → AreBare self.new }
+        ensures back { T.lends protocol.now ≡ true → T.besides protocol.now ≡ false → BringBack T.said (length (T.said (item_of packet.now words.now)).words) self.new }
     {
         self.message
-            .write_message(protocol, packet, &[], reply, own);
-        self.answer.write_answer(protocol, packet, &[], head, reply);
+            .write_message(protocol, packet, words, reply, own);
+        self.answer
+            .write_answer(protocol, packet, words, head, reply);
     }
 }
 
 // Whether a packet, if there is one, is a message under this id.
-#[tactic(auto, using(crate::proofs::OwnLaws::none_under))]
 fn is_message_under<T: Protocol>(protocol: &T, buffer: &PacketBuffer, id: u64) -> bool
-    ensures { result ≡ is_in id (map (T.format protocol.now).id_of (filter (T.format protocol.now).is_message (items_of buffer.now.packet))) }
+    ensures { result ≡ is_in id (map (T.format protocol.now).id_of (filter (T.format protocol.now).is_message (read_all T.said (sheets_of buffer.now)))) }
 {
     if buffer.is_empty() {
         return false;
     }
-    is_message_read(protocol, buffer.packet(), &[]) && id_read(protocol, buffer.packet(), &[]) == id
+    let packet = buffer.packet();
+    protocol.is_message(packet) && protocol.id(packet) == id
 }

@@ -1,5 +1,5 @@
 //! The serving end's own messages.
-ghost use Rattle.std.specs.Prelude.{◌≡◌, ◌<◌, ◌^◌, ◌==◌, ℕ, true, false, length, count_by, is_some, if◌then◌else◌};
+ghost use Rattle.std.specs.Prelude.{◌≡◌, ◌<◌, ◌≤◌, ◌^◌, ◌==◌, ℕ, true, false, length, count_by, is_some, if◌then◌else◌};
 ghost use Rattle.worker_server.specs.Serving.{own_in};
 
 use txn_table::TxnTable;
@@ -12,6 +12,7 @@ pub(crate) fn open_own(table: &mut TxnTable<u32>, besides: bool) -> u64
     ensures same { besides ≡ false → table.new ≡ table.old }
     ensures size { length table.new ≡ length table.old }
     ensures fits { result < 2 ^ 64 }
+    ensures most { result ≤ length table.old }
 {
     if !besides {
         return 0;

@@ -4,6 +4,7 @@ ghost use Rattle.page_kept.specs.Items.{item_of};
 ghost use Rattle.ring_machine.specs.States.{IsPacket};
 ghost use Rattle.worker_port.specs.Owed.{is_nil, need_of, IsNeed};
 ghost use Rattle.worker_port.specs.Rooms.{is_asked};
+ghost use Rattle.worker_server.specs.Sheets.{AnswerOne, AreBare, item_on, read_all};
 ghost use Rattle.worker_server.specs.Serving.{Closes, IsFull, ServesPacket, has_served, own_in};
 ghost use Rattle.txn_table.specs.Open.{HasNone};
 ghost use Rattle.channel_model.specs.Workers.{Owes};
@@ -17,7 +18,7 @@ use std::alloc::{AllocError, Global};
 use std::marker::Model;
 use std::sync::Wait;
 use txn_table::TxnTable;
-use worker_port::{id_read, is_ack_read, is_waiting_read};
+use worker_port::{PacketBuffer, id_read, is_ack_read, is_waiting_read};
 
 /// The protocol, the place at the device, the messages of its own that are open or owed, and what is owed for the packet that was served last.
 #[derive(Drop)]
@@ -37,14 +38,15 @@ pub(crate) struct Responder<T: Protocol, S: Device<T>> {
 }
 
 impl<T: Protocol, S: Device<T>> Model for Responder<T, S> {
-    ghost use Rattle.std.specs.Prelude.{◌≡◌, ◌≤◌, ◌-◌, false, length, map, vec_len, vec_capacity};
+    ghost use Rattle.std.specs.Prelude.{◌≡◌, ◌≤◌, ◌-◌, length, map, vec_len, vec_capacity};
     ghost use Rattle.worker_server.specs.Serving.{Responder, HasCalls, first_calls, last_calls};
+    ghost use Rattle.worker_server.specs.Sheets.{read_all};
 
     ghost Value = { Responder T S T.Request T.Reply };
 
-    ghost view = { λ d. record { protocol = d.protocol; seat = d.seat; before = first_calls (S.calls d.seat) (length d.serials.items); calls = last_calls (S.calls d.seat) (length d.serials.items); table = d.table; owed = d.owed; left = d.left; held = d.held; serials = d.serials.items; side = d.side; relid = d.relid } };
+    ghost view = { λ d. record { protocol = d.protocol; seat = d.seat; before = first_calls (S.calls d.seat) (length d.serials.items); calls = last_calls (S.calls d.seat) (length d.serials.items); table = d.table; owed = read_all T.said d.owed; sheets = d.owed; left = d.left; held = d.held; serials = d.serials.items; side = d.side; relid = d.relid } };
 
-    ghost invariant = { λ d. record { calls : HasCalls d.left (S.left d.seat); room : HasCalls d.left (vec_capacity d.serials - vec_len d.serials); serves : S.serves d.seat d.protocol; bare : T.lends d.protocol ≡ false; made : length d.serials.items ≤ length (S.calls d.seat); serials : d.serials.items ≡ map (λ c. c.serial) (last_calls (S.calls d.seat) (length d.serials.items)); places : length d.table ≡ 64; rescinds : (vec_len d.rescinded ≡ 0) × (64 ≤ vec_capacity d.rescinded) } };
+    ghost invariant = { λ d. record { calls : HasCalls d.left (S.left d.seat); room : HasCalls d.left (vec_capacity d.serials - vec_len d.serials); serves : S.serves d.seat d.protocol; made : length d.serials.items ≤ length (S.calls d.seat); serials : d.serials.items ≡ map (λ c. c.serial) (last_calls (S.calls d.seat) (length d.serials.items)); places : length d.table ≡ 64; rescinds : (vec_len d.rescinded ≡ 0) × (64 ≤ vec_capacity d.rescinded) } };
 }
 
 impl<T: Protocol, S: Device<T>> Responder<T, S> {
@@ -60,8 +62,7 @@ impl<T: Protocol, S: Device<T>> Responder<T, S> {
     ) -> Result<Responder<T, S>, AllocError>
         requires serves { S.serves seat protocol }
         requires calls { serve ≤ S.left seat }
-        requires bare { T.lends protocol ≡ false }
-        ensures { IfOk result (λ d. d ≡ record { protocol = protocol; seat = seat; before = S.calls seat; calls = []; table = replicate 64 None; owed = []; left = Some serve; held = held; serials = []; side = side; relid = relid }) }
+        ensures { IfOk result (λ d. d ≡ record { protocol = protocol; seat = seat; before = S.calls seat; calls = []; table = replicate 64 None; owed = []; sheets = []; left = Some serve; held = held; serials = []; side = side; relid = relid }) }
     {
         match Lists::make(alloc, serve) {
             Ok(lists) => Ok(Responder::over(protocol, seat, lists, side, relid, serve, held)),
@@ -85,13 +86,12 @@ impl<T: Protocol, S: Device<T>> Responder<T, S> {
     ) -> Responder<T, S>
         requires serves { S.serves seat protocol }
         requires calls { serve ≤ S.left seat }
-        requires bare { T.lends protocol ≡ false }
         requires table { lists.table ≡ replicate 64 None }
         requires rescinded { (vec_len lists.rescinded ≡ 0) × (64 ≤ vec_capacity lists.rescinded) }
         requires owed { lists.owed ≡ [] }
         requires none { lists.serials.items ≡ [] }
         requires serials { (vec_len lists.serials ≡ 0) × (serve ≤ vec_capacity lists.serials) }
-        ensures { result ≡ record { protocol = protocol; seat = seat; before = S.calls seat; calls = []; table = replicate 64 None; owed = []; left = Some serve; held = held; serials = []; side = side; relid = relid } }
+        ensures { result ≡ record { protocol = protocol; seat = seat; before = S.calls seat; calls = []; table = replicate 64 None; owed = []; sheets = []; left = Some serve; held = held; serials = []; side = side; relid = relid } }
     {
         let Lists {
             table,
@@ -132,22 +132,23 @@ impl<T: Protocol, S: Device<T>> Responder<T, S> {
     }
 
     // How many requests of the start-up are missing after this packet, where so many were before it. A packet is read only while some are.
-    pub(crate) fn missing_after(&self, missing: u32, packet: &[u64]) -> u32
+    pub(crate) fn missing_after(&self, missing: u32, packet: &[u64], words: &[u64]) -> u32
         requires { IsPacket packet.now }
-        ensures { result ≡ missing - (if (T.format self.now.protocol).is_request (T.said (item_of packet.now [])) && (T.format self.now.protocol).waits (T.said (item_of packet.now [])) then 1 else 0) }
+        ensures { result ≡ missing - (if (T.format self.now.protocol).is_request (T.said (item_of packet.now words.now)) && (T.format self.now.protocol).waits (T.said (item_of packet.now words.now)) then 1 else 0) }
     {
-        if missing == 0 || !is_waiting_read(&self.protocol, packet, &[]) {
+        if missing == 0 || !is_waiting_read(&self.protocol, packet, words) {
             return missing;
         }
         missing - 1
     }
 
     // Whether a packet asks the device for something.
-    pub(crate) fn is_asked(&self, packet: &[u64]) -> bool
-        requires { IsPacket packet.now }
-        ensures { result ≡ is_asked (T.format self.now.protocol) (T.said (item_of packet.now [])) }
+    pub(crate) fn is_asked(&self, packet: &[u64], words: &[u64]) -> bool
+        requires packet { IsPacket packet.now }
+        requires words { length words.now ≤ 512 }
+        ensures { result ≡ is_asked (T.format self.now.protocol) (T.said (item_of packet.now words.now)) }
     {
-        self.protocol.head(packet, &[]).is_some()
+        self.protocol.head(packet, words).is_some()
     }
 
     // Whether each place of its own table is taken: then a message that goes back waits for an acknowledgement.
@@ -159,16 +160,16 @@ impl<T: Protocol, S: Device<T>> Responder<T, S> {
     }
 
     // Closes the message that a packet acknowledges, if it is one that does. One that is only owed isn't closed.
-    pub(crate) fn close(&mut self, packet: &[u64])
+    pub(crate) fn close(&mut self, packet: &[u64], words: &[u64])
         requires { IsPacket packet.now }
-        ensures closes { Closes (T.format self.old.protocol) self.old.owed (T.said (item_of packet.now [])) self.old.table self.new.table }
+        ensures closes { Closes (T.format self.old.protocol) self.old.owed (T.said (item_of packet.now words.now)) self.old.table self.new.table }
         ensures size { length self.new.table ≡ length self.old.table }
         ensures same { self.new ≡ record self.old { table = self.new.table } }
     {
-        if !is_ack_read(&self.protocol, packet, &[]) {
+        if !is_ack_read(&self.protocol, packet, words) {
             return;
         }
-        let id = id_read(&self.protocol, packet, &[]);
+        let id = id_read(&self.protocol, packet, words);
         if self.owed.has_message(&self.protocol, id) {
             return;
         }
@@ -185,12 +186,13 @@ impl<T: Protocol, S: Device<T>> Responder<T, S> {
         self.rescinded.clear();
     }
 
-    // The packet that is sent next.
-    pub(crate) fn first(&self) -> &[u64]
+    // The packet that is sent next, with its page words.
+    pub(crate) fn first(&self) -> &PacketBuffer
         requires { is_nil self.now.owed ≡ false }
-        ensures value { self.now.owed ≡ item_of result.now [] ∷ drop 1 self.now.owed }
-        ensures packet { IsPacket result.now }
-        ensures most { length result.now ≤ 384 }
+        ensures value { self.now.owed ≡ T.said (item_on result.now) ∷ drop 1 self.now.owed }
+        ensures sheets { self.now.sheets ≡ result.now ∷ drop 1 self.now.sheets }
+        ensures read { self.now.owed ≡ read_all T.said self.now.sheets }
+        ensures some { is_nil result.now.packet ≡ false }
     {
         self.owed.first()
     }
@@ -203,11 +205,11 @@ impl<T: Protocol, S: Device<T>> Responder<T, S> {
         if self.owed.is_empty() {
             return None;
         }
-        Some(8 * self.owed.first().len() as u32 + 8)
+        Some(8 * self.owed.first().packet().len() as u32 + 8)
     }
 
     pub(crate) fn pop(&mut self)
-        ensures { self.new ≡ record self.old { owed = drop 1 self.old.owed } }
+        ensures { self.new ≡ record self.old { owed = drop 1 self.old.owed; sheets = drop 1 self.old.sheets } }
     {
         self.owed.pop();
     }
@@ -220,14 +222,23 @@ impl<T: Protocol, S: Device<T>> Responder<T, S> {
     }
 
     // Serves a packet. A message that goes back takes a free place of its own table.
-    pub(crate) fn serve<R: Wait, G: Gate>(&mut self, rt: &R, gate: &G, packet: &[u64])
+    pub(crate) fn serve<R: Wait, G: Gate>(
+        &mut self,
+        rt: &R,
+        gate: &G,
+        packet: &[u64],
+        words: &[u64],
+    )
         requires owed { self.old.owed ≡ [] }
         requires packet { IsPacket packet.now }
+        requires words { length words.now ≤ 512 }
         requires room { count_by is_some self.old.table < length self.old.table }
-        ensures serves { ServesPacket (T.format self.new.protocol) self.new.held (T.said (item_of packet.now [])) self.old.left self.old.calls self.new.calls self.new.owed self.new.left }
+        ensures serves { ServesPacket (T.format self.new.protocol) self.new.held (T.said (item_of packet.now words.now)) self.old.left self.old.calls self.new.calls self.new.owed self.new.left }
         ensures owes { Owes (T.format self.new.protocol) self.new.owed (own_in self.old.table) (own_in self.new.table) }
         ensures size { length self.new.table ≡ length self.old.table }
         ensures few { length self.new.owed ≤ 2 }
+        ensures bare { T.lends self.new.protocol ≡ false → AreBare self.new.sheets }
+        ensures back { T.lends self.new.protocol ≡ true → T.besides self.new.protocol ≡ false → AnswerOne T.said (T.format self.new.protocol) (T.said (item_of packet.now words.now)) self.new.sheets }
         ensures same { (self.new.protocol ≡ self.old.protocol) × (self.new.held ≡ self.old.held) × S.same self.old.seat self.new.seat }
         ensures channel { (self.new.side ≡ self.old.side) × (self.new.relid ≡ self.old.relid) }
         ensures before { self.new.before ≡ self.old.before }
@@ -235,30 +246,33 @@ impl<T: Protocol, S: Device<T>> Responder<T, S> {
         let Some(count) = self.left else {
             return;
         };
-        match self.protocol.head(packet, &[]) {
-            None => self.serve_fixed(count, packet),
-            Some(head) => self.serve_request(rt, gate, count, packet, &head),
+        match self.protocol.head(packet, words) {
+            None => self.serve_fixed(count, packet, words),
+            Some(head) => self.serve_request(rt, gate, count, packet, words, &head),
         }
     }
 
     // Serves a packet that asks nothing of the device.
-    fn serve_fixed(&mut self, count: u32, packet: &[u64])
+    fn serve_fixed(&mut self, count: u32, packet: &[u64], words: &[u64])
         requires owed { self.old.owed ≡ [] }
         requires packet { IsPacket packet.now }
+        requires words { length words.now ≤ 512 }
         requires count { self.old.left ≡ Some count }
-        requires reads { (T.format self.old.protocol).read (T.said (item_of packet.now [])) ≡ None }
+        requires reads { (T.format self.old.protocol).read (T.said (item_of packet.now words.now)) ≡ None }
         requires room { count_by is_some self.old.table < length self.old.table }
-        ensures serves { ServesPacket (T.format self.new.protocol) self.new.held (T.said (item_of packet.now [])) (Some count) self.old.calls self.new.calls self.new.owed self.new.left }
+        ensures serves { ServesPacket (T.format self.new.protocol) self.new.held (T.said (item_of packet.now words.now)) (Some count) self.old.calls self.new.calls self.new.owed self.new.left }
         ensures owes { Owes (T.format self.new.protocol) self.new.owed (own_in self.old.table) (own_in self.new.table) }
         ensures size { length self.new.table ≡ length self.old.table }
         ensures few { length self.new.owed ≤ 2 }
+        ensures bare { T.lends self.new.protocol ≡ false → AreBare self.new.sheets }
+        ensures back { T.lends self.new.protocol ≡ true → T.besides self.new.protocol ≡ false → AnswerOne T.said (T.format self.new.protocol) (T.said (item_of packet.now words.now)) self.new.sheets }
         ensures same { (self.new.protocol ≡ self.old.protocol) × (self.new.held ≡ self.old.held) × (self.new.seat ≡ self.old.seat) }
         ensures channel { (self.new.side ≡ self.old.side) × (self.new.relid ≡ self.old.relid) }
         ensures before { self.new.before ≡ self.old.before }
     {
-        let besides = self.protocol.has_fixed_message(packet, &[]);
+        let besides = self.protocol.has_fixed_message(packet, words);
         let own = open_own(&mut self.table, besides);
-        self.owed.owe_fixed(&self.protocol, packet, own);
+        self.owed.owe_fixed(&self.protocol, packet, words, own);
     }
 
     // Serves a request of the device: past the last one nothing is served, and the last one has no answer where it is held.
@@ -268,18 +282,22 @@ impl<T: Protocol, S: Device<T>> Responder<T, S> {
         gate: &G,
         count: u32,
         packet: &[u64],
+        words: &[u64],
         head: &T::Head,
     )
         requires owed { self.old.owed ≡ [] }
         requires packet { IsPacket packet.now }
+        requires words { length words.now ≤ 512 }
         requires count { self.old.left ≡ Some count }
-        requires head { T.is_head self.old.protocol (T.said (item_of packet.now [])) head.now }
-        requires reads { IsSome ((T.format self.old.protocol).read (T.said (item_of packet.now []))) }
+        requires head { T.is_head self.old.protocol (T.said (item_of packet.now words.now)) head.now }
+        requires reads { IsSome ((T.format self.old.protocol).read (T.said (item_of packet.now words.now))) }
         requires room { count_by is_some self.old.table < length self.old.table }
-        ensures serves { ServesPacket (T.format self.new.protocol) self.new.held (T.said (item_of packet.now [])) (Some count) self.old.calls self.new.calls self.new.owed self.new.left }
+        ensures serves { ServesPacket (T.format self.new.protocol) self.new.held (T.said (item_of packet.now words.now)) (Some count) self.old.calls self.new.calls self.new.owed self.new.left }
         ensures owes { Owes (T.format self.new.protocol) self.new.owed (own_in self.old.table) (own_in self.new.table) }
         ensures size { length self.new.table ≡ length self.old.table }
         ensures few { length self.new.owed ≤ 2 }
+        ensures bare { T.lends self.new.protocol ≡ false → AreBare self.new.sheets }
+        ensures back { T.lends self.new.protocol ≡ true → T.besides self.new.protocol ≡ false → AnswerOne T.said (T.format self.new.protocol) (T.said (item_of packet.now words.now)) self.new.sheets }
         ensures same { (self.new.protocol ≡ self.old.protocol) × (self.new.held ≡ self.old.held) × S.same self.old.seat self.new.seat }
         ensures channel { (self.new.side ≡ self.old.side) × (self.new.relid ≡ self.old.relid) }
         ensures before { self.new.before ≡ self.old.before }
@@ -290,16 +308,16 @@ impl<T: Protocol, S: Device<T>> Responder<T, S> {
         }
         self.number = self.number.wrapping_add(1);
         gate.pass(self.side, self.relid, self.number);
-        let request = self.protocol.read(packet, &[], head);
+        let request = self.protocol.read(packet, words, head);
         let (serial, reply) = self.seat.call(rt, &self.protocol, request);
         self.serials.push_reserved(serial);
         if is_held_back(self.held, count) {
             self.left = None;
         } else {
-            let besides = self.protocol.has_message(packet, &[], &reply);
+            let besides = self.protocol.has_message(packet, words, &reply);
             let own = open_own(&mut self.table, besides);
             self.owed
-                .owe_reply(&self.protocol, packet, head, &reply, own);
+                .owe_reply(&self.protocol, packet, words, head, &reply, own);
             self.left = Some(count - 1);
         }
     }

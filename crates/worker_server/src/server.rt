@@ -3,10 +3,11 @@ ghost use Rattle.std.specs.Prelude.{◌≡◌, ◌≢◌, ◌<◌, ◌≤◌, �
 ghost use Rattle.channel_trace.specs.Runs.{got_of, is_drained};
 ghost use Rattle.worker_port.specs.Causes.{Arms, Polls};
 ghost use Rattle.worker_server.specs.Causes.{GivesLast, GivesOne, GivesOrTakes, ServeCause, TakesOrArms};
-ghost use Rattle.worker_port.specs.Line.{new_end, IsLine, line_of, past_as, Finds, IsBroken, IsReady, IsSameEnd, HasTakeRoom, LacksTake, TookOne};
+ghost use Rattle.worker_port.specs.Line.{paged_end, IsLine, line_of, past_as, Finds, IsBroken, IsReady, IsSameEnd, HasTakeRoom, LacksTake, TookOne};
 ghost use Rattle.worker_port.specs.Owed.{is_nil, LacksSend, MetFull};
 ghost use Rattle.worker_port.specs.Rooms.{KeepsRoom, OnlyWith, ServeLacksFor, ServedWithin, broke, is_broken};
 ghost use Rattle.worker_server.specs.Serving.{Closes, EndsBy, EverTried, FirstFull, HasRoomFor, HasServed, HasToWait, Lacks, LacksRoom, LeavesTried, OwedTried, Turns, TurnTried, GaveOne, ServeEnds, ServesOn, BreaksOff, StandsGiven, calls_behind, has_done, lacks_call, marked_by};
+ghost use Rattle.worker_server.specs.Sheets.{TellsLawful};
 ghost use Rattle.worker_port.specs.Tries.{FoundNone};
 ghost use Rattle.ring_core.specs.Seen.{Seen};
 ghost use Rattle.channel_model.specs.Acks.{AllOwnOpen, OwnFrom};
@@ -46,12 +47,13 @@ impl<T: Protocol, S: Device<T>, E: Parks> Model for Server<T, S, E> {
     ghost use Rattle.worker_port.specs.Rooms.{KeepsRoom};
     ghost use Rattle.channel_model.specs.Amounts.{room_of};
     ghost use Rattle.worker_server.specs.Serving.{Serving, IsServing};
+    ghost use Rattle.worker_server.specs.Sheets.{HasPages};
 
     ghost Value = { Serving T S E T.Request T.Reply };
 
     ghost view = { λ w. record { responder = w.responder; end = w.port; serve = w.serve; stops = w.stops; starts = w.starts; come = w.come; missing = w.missing; served = w.served; seen = w.seen; want = w.want } };
 
-    ghost invariant = { λ w. record { live : IsServing (T.format w.responder.protocol) (T.besides w.responder.protocol) (record { responder = w.responder; end = w.port; serve = w.serve; stops = w.stops; starts = w.starts; come = w.come; missing = w.missing; served = w.served; seen = w.seen; want = w.want }); room : KeepsRoom (room_of (T.besides w.responder.protocol) (w.starts + w.come)) w.port; pages : w.port.end.state.pages.count ≡ 0; side : w.responder.side ≡ w.port.state.machine.side } };
+    ghost invariant = { λ w. record { live : IsServing (T.format w.responder.protocol) (T.besides w.responder.protocol) (record { responder = w.responder; end = w.port; serve = w.serve; stops = w.stops; starts = w.starts; come = w.come; missing = w.missing; served = w.served; seen = w.seen; want = w.want }); room : KeepsRoom (room_of (T.besides w.responder.protocol) (w.starts + w.come)) w.port; pages : HasPages E.told T.said (T.format w.responder.protocol) (T.lends w.responder.protocol) (T.besides w.responder.protocol) (record { responder = w.responder; end = w.port; serve = w.serve; stops = w.stops; starts = w.starts; come = w.come; missing = w.missing; served = w.served; seen = w.seen; want = w.want }); side : w.responder.side ≡ w.port.state.machine.side } };
 }
 
 /// What a serving worker gives once it has ended.
@@ -77,14 +79,15 @@ impl<T: Protocol, S: Device<T>, E: Parks + Drop> Server<T, S, E> {
         ensures honest { is_some (E.told self.old.end.seat) ≡ true → result ≢ BrokenGiven }
         ensures on { ServesOn S.same E.channel E.told self.old self.new }
     {
-        let packet = self.responder.first();
-        if let Some(room) = self.port.lacks_send(packet) {
+        let sheet = self.responder.first();
+        if let Some(room) = self.port.lacks_send(sheet.packet()) {
             return Given::Lacks {
                 packets: room.packets,
                 words: room.words,
             };
         }
-        match self.port.send(packet, &[]) {
+        self.port.stands_on_pages();
+        match self.port.send(sheet.packet(), sheet.page()) {
             Tried::Sent => {
                 self.responder.pop();
                 Given::Sent
@@ -107,7 +110,12 @@ impl<T: Protocol, S: Device<T>, E: Parks + Drop> Server<T, S, E> {
     {
         let came = self.port.got_len();
         prove!(self.served < came);
-        self.responder.serve(rt, gate, self.port.got(self.served));
+        self.responder.serve(
+            rt,
+            gate,
+            self.port.got(self.served),
+            self.port.words(self.served),
+        );
         self.served += 1;
     }
 
@@ -128,8 +136,10 @@ impl<T: Protocol, S: Device<T>, E: Parks + Drop> Server<T, S, E> {
     {
         match self.port.take() {
             Found::Packet => {
-                self.missing = self.responder.missing_after(self.missing, self.port.last());
-                self.responder.close(self.port.last());
+                let packet = self.port.last();
+                let words = self.port.last_words();
+                self.missing = self.responder.missing_after(self.missing, packet, words);
+                self.responder.close(packet, words);
                 Found::Packet
             }
             Found::Nothing => Found::Nothing,
@@ -246,7 +256,9 @@ impl<T: Protocol, S: Device<T>, E: Parks + Drop> Server<T, S, E> {
         !self.stops
             && self.responder.has_served()
             && self.has_unserved()
-            && self.responder.is_asked(self.port.got(self.served))
+            && self
+                .responder
+                .is_asked(self.port.got(self.served), self.port.words(self.served))
     }
 
     // Whether the worker has done what its plan says, and stops then.
@@ -460,8 +472,12 @@ impl<T: Protocol, S: Device<T>, E: Parks + Drop> Server<T, S, E> {
     ) -> Result<Server<T, S, E>, AllocError>
         requires serves { S.serves seat protocol }
         requires calls { serve ≤ S.left seat }
-        requires bare { T.lends protocol ≡ false }
-        requires fresh { end.state ≡ new_end end.state.machine.cells end.state.machine.side }
+        requires none { T.lends protocol ≡ false → end.state.pages.count ≡ 0 }
+        requires some { T.lends protocol ≡ true → end.state.pages.count ≢ 0 }
+        requires alone { T.lends protocol ≡ true → T.besides protocol ≡ false }
+        requires tells { T.lends protocol ≡ true → is_some (E.told end.seat) ≡ true }
+        requires lawful { T.lends protocol ≡ true → TellsLawful E.told }
+        requires fresh { end.state ≡ paged_end end.state.pages.count end.state.machine.cells end.state.machine.side }
         requires size { (512 ≤ end.state.machine.cells) × (end.state.machine.cells ≤ 16777216) }
         requires side { side ≡ end.state.machine.side }
         ensures protocol { IfOk result (λ w. (w.responder.protocol ≡ protocol) × (w.responder.seat ≡ seat) × (w.responder.before ≡ S.calls seat)) }

@@ -2,7 +2,14 @@ use Rattle.std.proofs.Common.{◌≡◌, ◌∙◌, ap, arith, length}
 use Rattle.device_formats.specs.ChannelScript.{ChannelScript}
 use Rattle.device_formats.specs.Wants.{startup}
 use Rattle.worker_pair.proofs.Opening.{starts_all, if_ok}
+use Rattle.worker_requester.proofs.BareLaws.{fresh_bare}
 use Rattle.worker_pair.proofs.making.make_server.Goals as goal
+
+pub make-requires-clause-fresh : goal.make-requires-clause-fresh
+make-requires-clause-fresh c = fresh_bare c.args.end _ _ c.requires.fresh
+
+pub make-requires-clause-none : goal.make-requires-clause-none
+make-requires-clause-none c = λ _. ap (λ s. s.pages.count) c.requires.fresh
 
 pub overflow_sub-starts : goal.overflow_sub-starts
 overflow_sub-starts c =

@@ -1,7 +1,9 @@
-use Rattle.std.proofs.Common.{◌≡◌, sym, ◌∙◌, ap}
+use Rattle.std.proofs.Common.{◌≡◌, sym, ◌∙◌, ap, subst}
 use Rattle.worker_port.specs.Line.{Line, look_of, looked}
 use Rattle.worker_port.proofs.ItemLaws.{arm_past, got_same_as}
 use Rattle.worker_port.proofs.PortLaws.{arm_waits}
+use Rattle.worker_port.specs.Homes.{KeepsHome}
+use Rattle.worker_port.proofs.HomeLaws.{quiet_home}
 use Rattle.worker_port.proofs.port.Port.arm.Goals as goal
 
 pub returns-clause-want : goal.returns-clause-want
@@ -24,3 +26,6 @@ returns-clause-lists g c =
       k.spare_got ∙ ap (λ (x : Line _). x.spare_got) c.self.view_is,
       k.spare_sent ∙ ap (λ (x : Line _). x.spare_sent) c.self.view_is,
     )
+
+pub returns-clause-home : goal.returns-clause-home
+returns-clause-home g c = subst (λ (x : Line _). KeepsHome x.end.state c.arm-found.new.self.state) c.self.view_is (quiet_home c.self.inside.end c.arm-found.new.self c.arm-found.ensures.kept c.arm-found.ensures.leaves.side)

@@ -1,9 +1,11 @@
-use Rattle.std.proofs.Common.{◌∷◌, sym, ap, ◌∙◌}
+use Rattle.std.proofs.Common.{◌∷◌, sym, ap, ◌∙◌, subst}
 use Rattle.channel_trace.specs.declared.event.Event.TheVariants.{Marked}
 use Rattle.channel_trace.specs.Runs.{got_of, has_marked}
 use Rattle.worker_port.specs.Line.{Line}
 use Rattle.worker_port.proofs.ItemLaws.{got_same_as, line_got, line_marked, mark_past}
 use Rattle.worker_port.proofs.PortLaws.{mark_keeps}
+use Rattle.worker_port.specs.Homes.{KeepsHome}
+use Rattle.worker_port.proofs.HomeLaws.{quiet_home}
 use Rattle.worker_port.proofs.port.Port.mark.Goals as goal
 
 pub returns-clause-found : goal.returns-clause-found
@@ -37,3 +39,6 @@ returns-clause-lists g c =
       k.spare_got ∙ ap (λ (x : Line _). x.spare_got) c.self.view_is,
       k.spare_sent ∙ ap (λ (x : Line _). x.spare_sent) c.self.view_is,
     )
+
+pub returns-clause-home : goal.returns-clause-home
+returns-clause-home g c = subst (λ (x : Line _). KeepsHome x.end.state c.mark.new.self.state) c.self.view_is (quiet_home c.self.inside.end c.mark.new.self c.mark.ensures.kept c.mark.ensures.leaves.side)

@@ -1,7 +1,9 @@
-use Rattle.std.proofs.Common.{◌∙◌, ap}
+use Rattle.std.proofs.Common.{◌∙◌, ap, subst}
 use Rattle.worker_port.specs.Line.{Line}
 use Rattle.worker_port.proofs.ItemLaws.{got_same_as, poll_past}
 use Rattle.worker_port.proofs.PortLaws.{poll_waits}
+use Rattle.worker_port.specs.Homes.{KeepsHome}
+use Rattle.worker_port.proofs.HomeLaws.{quiet_home}
 use Rattle.worker_port.proofs.port.Port.poll.Goals as goal
 
 pub returns-clause-want : goal.returns-clause-want
@@ -22,3 +24,6 @@ returns-clause-lists g c =
       k.spare_got ∙ ap (λ (x : Line _). x.spare_got) c.self.view_is,
       k.spare_sent ∙ ap (λ (x : Line _). x.spare_sent) c.self.view_is,
     )
+
+pub returns-clause-home : goal.returns-clause-home
+returns-clause-home g c = subst (λ (x : Line _). KeepsHome x.end.state c.poll_signal.new.self.state) c.self.view_is (quiet_home c.self.inside.end c.poll_signal.new.self c.poll_signal.ensures.kept c.poll_signal.ensures.leaves.side)

@@ -11,11 +11,15 @@ use Rattle.ring_machine.specs.Steps.{is_broken, is_sent}
 use Rattle.ring_machine.specs.declared.machine.Stage.TheVariants.{Idle, Stopped}
 use Rattle.ring_core.specs.Pages.{along}
 use Rattle.worker_port.specs.Line.{Line, Tries, item_sent, line_of, page_words, past_tried, words_sent}
-use Rattle.worker_port.specs.Tries.{LaidOnce, TriedOnce}
+use Rattle.worker_port.specs.Tries.{LaidOnce}
 use Rattle.worker_port.proofs.ItemLaws.{got_kept, item_bare, item_sent_is, line_marked, send_past}
 use Rattle.worker_port.proofs.PageLaws.{along_few}
 use Rattle.worker_port.proofs.PortLaws.{full_tried, honest_tried, not_sent, send_finds, sent_line, tries}
 use Rattle.worker_port.proofs.SendLaws.{carried, lays_sent, sent_by_how}
+use Rattle.worker_port.specs.Homes.{SendsHome}
+use Rattle.worker_port.proofs.HomeLaws.{home_sent}
+use Rattle.worker_port.proofs.PortLaws.{was_sent}
+use Rattle.worker_port.proofs.SendLaws.{stored}
 use Rattle.worker_port.proofs.port.Port.send.Goals as goal
 
 pub lay_all-requires-clause-idle : goal.lay_all-requires-clause-idle
@@ -144,20 +148,12 @@ returns-clause-found g c = λ full.
     let how = full_tried m.ended m c.send.result (e.answer idle).1 (e.answer idle).0 (sym c.tried_by-tried.ensures ∙ full) in
     send_finds (length c.args.packet.now) c.args.packet.now c.lay_all.new.end.state c.send.new.self.state _ _ _ _ (e.ran idle) ((e.leaves idle).stage ∙ ap (λ h. cond (is_broken h) Stopped Idle) how) how
 
-pub returns-clause-laid : goal.returns-clause-laid
-returns-clause-laid g c =
-    let e = c.send.ensures in
-    let a = c.lay_all.ensures in
-    let idle = ap (λ m. m.stage) a.kept.0.machine ∙ (ap (λ (x : Line _). x.state.machine.stage) c.self.view_is ∙ c.requires.ready.idle) in
-    (c.lay_all.new.end, subst (λ (x : Line _). LaidOnce g.S.Seatlike.told g.S.Seatlike.memory c.args.packet.now c.args.words.now x.end c.lay_all.new.end) c.self.view_is a.laid, e.ran idle)
-
 pub returns-clause-tried : goal.returns-clause-tried
-returns-clause-tried g c = λ none.
+returns-clause-tried g c =
     let e = c.send.ensures in
     let a = c.lay_all.ensures in
     let idle = ap (λ m. m.stage) a.kept.0.machine ∙ (ap (λ (x : Line _). x.state.machine.stage) c.self.view_is ∙ c.requires.ready.idle) in
-    let same = a.laid.none none ∙ ap (λ (x : Line _). x.end) c.self.view_is in
-    subst (λ x. TriedOnce g.S.Seatlike.told g.S.Seatlike.memory c.args.packet.now x c.send.new.self) same (e.ran idle)
+    record { laid = c.lay_all.new.end; lays = subst (λ (x : Line _). LaidOnce g.S.Seatlike.told g.S.Seatlike.memory c.args.packet.now c.args.words.now x.end c.lay_all.new.end) c.self.view_is a.laid; tried = e.ran idle }
 
 pub returns-clause-full : goal.returns-clause-full
 returns-clause-full g c = λ full.
@@ -177,3 +173,19 @@ returns-clause-into g c =
       packets = omega (arith, r.packets, ap (λ x. x.packets) s, ap (λ (x : Line _). x.spare_sent.packets) v);
       words_is = omega (arith, r.words, ap (λ x. x.words) s, ap (λ (x : Line _). x.spare_sent.words) v, a.along, along_few c.self.inside.end.state.pages c.args.packet.now c.self.invariant.pages.held, ap (λ (x : Line _). page_words x.end.state.pages.count 1) v);
     }
+
+pub returns-clause-home : goal.returns-clause-home
+returns-clause-home g c =
+    let e = c.send.ensures in
+    let a = c.lay_all.ensures in
+    let v = c.self.view_is in
+    let idle = ap (λ m. m.stage) a.kept.0.machine ∙ (ap (λ (x : Line _). x.state.machine.stage) v ∙ c.requires.ready.idle) in
+    let n = c.send.new.self.state in
+    let m = n.machine in
+    let old = c.self.inside.end in
+    let l = c.lay_all.new.end.state.pages in
+    let p = c.args.packet.now in
+    let how = c.tried_by-tried.ensures in
+    subst (λ (x : Line _). SendsHome c.tried_by-tried.result p x.end.state n) v
+    (home_sent old.state n l p c.args.words.now (stored old.state.pages l p c.args.words.now a.pages) c.self.invariant.pages.listed (e.same.2 ∙ ap (λ x. x.side) a.kept.0.machine) (e.kept.0 ∙ a.kept.0.got) c.tried_by-tried.result (is_sent m.ended)
+    (λ is. was_sent m.ended m c.send.result (e.answer idle).1 (e.answer idle).0 (sym how ∙ is)) (λ none. not_sent m.ended m c.send.result (e.answer idle).1 (e.answer idle).0 (λ is. none (how ∙ is))) (e.pages idle))

@@ -1,7 +1,9 @@
-use Rattle.std.proofs.Common.{ap, ◌∙◌}
+use Rattle.std.proofs.Common.{ap, ◌∙◌, subst}
 use Rattle.worker_port.specs.Line.{Line}
 use Rattle.worker_port.proofs.ItemLaws.{got_same_as, past_same}
 use Rattle.worker_port.proofs.PortLaws.{slept_line}
+use Rattle.worker_port.specs.Homes.{KeepsHome}
+use Rattle.worker_port.proofs.HomeLaws.{quiet_home}
 use Rattle.worker_port.proofs.port.Port.sleep.Goals as goal
 
 pub invariant_of-self : goal.invariant_of-self
@@ -19,3 +21,6 @@ returns-clause-lists g c =
       k.spare_got ∙ ap (λ (x : Line _). x.spare_got) c.self.view_is,
       k.spare_sent ∙ ap (λ (x : Line _). x.spare_sent) c.self.view_is,
     )
+
+pub returns-clause-home : goal.returns-clause-home
+returns-clause-home g c = subst (λ (x : Line _). KeepsHome x.end.state c.sleep.new.e.state) c.self.view_is (quiet_home c.self.inside.end c.sleep.new.e c.sleep.ensures.slept.kept c.sleep.ensures.slept.side)

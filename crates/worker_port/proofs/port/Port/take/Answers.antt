@@ -14,6 +14,9 @@ use Rattle.worker_port.proofs.ItemLaws.{line_got}
 use Rattle.worker_port.proofs.PageLaws.{taken_whole}
 use Rattle.worker_port.proofs.RoomLaws.{got_one, got_same}
 use Rattle.worker_port.proofs.TakeLaws.{a_packet, commit_past, found_none, no_packet, no_refusal, one_taken, refused_line, refused_pages, refused_room, refused_took, taken_count, taken_got, taken_past, took_idle, took_pages_of}
+use Rattle.worker_port.specs.Homes.{TakesHome}
+use Rattle.worker_port.proofs.HomeLaws.{home_same}
+use Rattle.worker_port.proofs.TakeLaws.{refused_list, taken_home, takes_none}
 use Rattle.worker_port.proofs.port.Port.take.Goals as goal
 
 pub load_all-requires-clause-room : goal.load_all-requires-clause-room
@@ -220,3 +223,36 @@ returns-then-not-has_packet-clause-looked g c = λ nothing.
     let idle = ap (λ (x : Line _). x.state.machine.stage) v ∙ c.requires.ready.idle in
     let none = found_none g.S.Seatlike.told g.S.Seatlike.memory old c.take_in.new.self (refused c.take_in.result) (c.take_in.ensures.takes.idle idle) (sym c.found_by-found.ensures ∙ nothing) in
     subst (λ (x : Line _). FoundNone g.S.Seatlike.told g.S.Seatlike.memory x.end c.take_in.new.self) v none
+
+pub returns-then-not-has_packet-clause-home : goal.returns-then-not-has_packet-clause-home
+returns-then-not-has_packet-clause-home g c =
+    let v = c.self.view_is in
+    let old = c.self.inside.end in
+    let mid = c.take_in.new.self in
+    let idle = ap (λ (x : Line _). x.state.machine.stage) v ∙ c.requires.ready.idle in
+    let not = no_packet (refused c.take_in.result) c.found_by-found.result c.found_by-found.ensures (sym c.has_packet.ensures ∙ c.if-not-has_packet.true) in
+    let takes = c.take_in.ensures.takes in
+    let pages = refused_pages old mid (refused c.take_in.result) not takes idle (c.take_in.ensures.pages idle) in
+    let said = g.T.Protocol.said in
+    subst (λ (x : Line _). TakesHome c.found_by-found.result x (line_of said mid)) v
+    (takes_none c.found_by-found.result (line_of said old) (line_of said mid) (λ is. not (sym c.found_by-found.ensures ∙ is)) (home_same old.state mid.state takes.side (refused_list old mid (refused c.take_in.result) not takes idle) (ap (λ k. k.count) pages) (ap (λ k. k.sent) pages) (ap (λ k. k.owners) pages)))
+
+pub returns-clause-home : goal.returns-clause-home
+returns-clause-home g c =
+    let v = c.self.view_is in
+    let old = c.self.inside.end in
+    let mid = c.take_in.new.self in
+    let idle = ap (λ (x : Line _). x.state.machine.stage) v ∙ c.requires.ready.idle in
+    let l = c.self.invariant in
+    let whole = c.load_all.new.end in
+    let is = a_packet c.found_by-found.result (sym c.has_packet.ensures ∙ c.if-not-has_packet.false) in
+    let took = no_refusal (refused c.take_in.result) (sym c.found_by-found.ensures ∙ is) in
+    let gets = c.take_in.ensures.took took in
+    let takes = c.take_in.ensures.takes in
+    let pages = took_pages_of old mid (refused c.take_in.result) takes idle took (c.take_in.ensures.pages idle) in
+    let w = taken_whole g.S.Seatlike.told g.S.Seatlike.memory g.S.Seatlike.same g.met.S.Seatlike.same_refl old.state.pages mid whole gets.words old.state.got gets.list l.pages.clear pages c.load_all.ensures.loads c.load_all.ensures.none in
+    let past = c.commit.ensures.past ∙ commit_past c.commit.new.self.state.machine.ended c.commit.new.self.state.machine.saw whole.state.past c.commit.ensures.answer.1 in
+    let said = g.T.Protocol.said in
+    subst (λ f. TakesHome f c.args.self.now (line_of said c.commit.new.self)) (sym is)
+    (subst (λ (x : Line _). TakesHome FoundPacket x (line_of said c.commit.new.self)) v
+    (taken_home old mid whole c.commit.new.self (refused c.take_in.result) takes gets w past c.commit.ensures.kept l said g.T.Protocol.said_packet pages c.commit.ensures.leaves.side))

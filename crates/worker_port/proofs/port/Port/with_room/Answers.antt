@@ -3,6 +3,9 @@ use Rattle.worker_port.specs.Line.{Line, LineState, page_places, page_words}
 use Rattle.worker_port.specs.Rooms.{places_for}
 use Rattle.worker_port.proofs.ItemLaws.{got_new, past_new}
 use Rattle.worker_port.proofs.RoomLaws.{room_new}
+use Rattle.std.proofs.Common.{subst, false}
+use Rattle.worker_port.specs.Homes.{HasHome}
+use Rattle.worker_port.proofs.HomeLaws.{home_new}
 use Rattle.worker_port.proofs.port.Port.with_room.Goals as goal
 
 pub returns-in-Ok-clause-room : goal.returns-in-Ok-clause-room
@@ -28,3 +31,7 @@ returns-in-Ok-clause-new g c =
       ap (λ (s : LineState). s.got) e ∙ got_new said c.args.end.state (ap (λ s. s.got) f) (ap (λ s. s.pages.got) f),
       ap (λ (s : LineState). s.machine) e,
     )
+
+pub returns-in-Ok-clause-home : goal.returns-in-Ok-clause-home
+returns-in-Ok-clause-home g c =
+    subst (HasHome (λ t. false)) (sym (c.reserve.ensures.state.0 ∙ ap (λ (x : Line _). x.end.state) c.over-port.ensures)) (home_new c.args.end.state c.requires.fresh)

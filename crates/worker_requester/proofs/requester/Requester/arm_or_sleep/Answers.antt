@@ -1,10 +1,12 @@
-use Rattle.std.proofs.Common.{ap, sym, ◌∙◌, subst}
+use Rattle.std.proofs.Common.{ap, sym, ◌∙◌, subst, length}
 use Rattle.channel_trace.specs.Runs.{sent_of}
 use Rattle.ring_machine.specs.Endings.{want_of}
 use Rattle.worker_port.specs.Tries.{ArmedOnce, FoundNothing}
 use Rattle.worker_requester.specs.Asking.{Holds, HoldTried, want_by}
-use Rattle.worker_requester.proofs.AskSteps.{still_kept, holds_on, rests_tried}
+use Rattle.worker_requester.proofs.AskSteps.{saw_kept, still_kept, holds_on, rests_tried}
 use Rattle.worker_port.proofs.RoomLaws.{room_quiet, got_same}
+use Rattle.worker_requester.specs.Asking.{is_open_in}
+use Rattle.worker_requester.proofs.HomeSteps.{home_quiet, pages_on}
 use Rattle.worker_requester.proofs.requester.Requester.arm_or_sleep.Goals as goal
 
 pub invariant_of-self : goal.invariant_of-self
@@ -12,8 +14,8 @@ invariant_of-self g c =
     let v = c.self.view_is in
     let l = c.self.invariant (ap (λ w. w.end.state.machine.marked) v ∙ c.requires.ready.unmarked) in
     λ _. record {
-      bare = l.bare;
-      pages = c.arm.ensures.stays.same.pages ∙ l.pages;
+      pages = pages_on (g.T.Protocol.lends c.self.inside.protocol) (length c.self.inside.table) c.arm.ensures.stays.same l.pages;
+      home = home_quiet (g.T.Protocol.format c.self.inside.protocol) (g.T.Protocol.asks c.self.inside.protocol) c.self.inside.port.state.past c.arm.new.self.state.past c.self.inside.port.end.state c.arm.new.self.end.state (ap (is_open_in (g.T.Protocol.format c.self.inside.protocol) (g.T.Protocol.asks c.self.inside.protocol)) c.in-Nothing.ensures.past) c.arm.ensures.home l.home;
       live = still_kept (g.T.Protocol.format c.self.inside.protocol) (g.T.Protocol.keeps c.self.inside.protocol) (g.T.Protocol.asks c.self.inside.protocol) (record {
         protocol = c.self.inside.protocol;
         end = c.self.inside.port;
@@ -94,3 +96,30 @@ returns-in-Nothing-clause-tried g c = λ before looked none held.
       hold = c.self.inside.hold;
       relid = c.self.inside.relid;
     }) c.arm.new.self hold before looked c.arm.ensures.lists.0 none held' rested
+
+pub invariant_of-self-in-Mark : goal.invariant_of-self-in-Mark
+invariant_of-self-in-Mark g c =
+    let v = c.self.view_is in
+    let l = c.self.invariant (ap (λ w. w.end.state.machine.marked) v ∙ c.requires.ready.unmarked) in
+    λ _. record {
+      pages = pages_on (g.T.Protocol.lends c.self.inside.protocol) (length c.self.inside.table) c.arm.ensures.stays.same l.pages;
+      home = home_quiet (g.T.Protocol.format c.self.inside.protocol) (g.T.Protocol.asks c.self.inside.protocol) c.self.inside.port.state.past c.arm.new.self.state.past c.self.inside.port.end.state c.arm.new.self.end.state (ap (is_open_in (g.T.Protocol.format c.self.inside.protocol) (g.T.Protocol.asks c.self.inside.protocol)) c.in-Mark.ensures.past) c.arm.ensures.home l.home;
+      live = saw_kept (g.T.Protocol.format c.self.inside.protocol) (g.T.Protocol.keeps c.self.inside.protocol) (g.T.Protocol.asks c.self.inside.protocol) (record {
+        protocol = c.self.inside.protocol;
+        end = c.self.inside.port;
+        table = c.self.inside.table;
+        next = c.self.inside.next;
+        waiting = c.self.inside.waiting;
+        acked = c.self.inside.acked;
+        told = c.self.inside.replies.items;
+        starts = c.self.inside.starts;
+        seen = c.self.inside.seen;
+        hold = c.self.inside.hold;
+        relid = c.self.inside.relid;
+      }) _ c.args.hold c.in-Mark.ensures.past c.arm.ensures.lists.0 c.in-Mark.ensures.asleep l.live;
+      replies = l.replies;
+      spare = l.spare;
+      size = l.size;
+      room = room_quiet _ _ _ (got_same _ _ c.arm.ensures.stays.same.pages c.arm.ensures.lists.0 c.arm.ensures.lists.1) c.arm.ensures.stays.cells c.arm.ensures.lists.2 (ap sent_of c.in-Mark.ensures.past) l.room;
+      side = l.side ∙ sym c.arm.ensures.stays.side;
+    }

@@ -8,8 +8,8 @@ invariant_of-self g c =
     let v = c.self.view_is in
     let l = c.self.invariant (ap (λ w. w.end.state.machine.marked) v ∙ c.requires.ready.unmarked) in
     λ _. record {
-      bare = l.bare;
       pages = l.pages;
+      home = l.home;
       live = skipped_kept (g.T.Protocol.format c.self.inside.protocol) (g.T.Protocol.keeps c.self.inside.protocol) (g.T.Protocol.asks c.self.inside.protocol) _ c.next_message-self-inside.result c.next_message-self-inside.ensures (ap (λ w. w.end.state.machine.asleep) v ∙ c.requires.ready.awake) l.live;
       replies = l.replies;
       spare = l.spare;

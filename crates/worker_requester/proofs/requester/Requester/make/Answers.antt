@@ -2,7 +2,8 @@ use Rattle.std.proofs.Common.{◌≡◌, ℕ, ap, sym, ◌∙◌, length, subst,
 use Rattle.std.proofs.lemmas.List.{length-replicate}
 use Rattle.worker_port.specs.Rooms.{KeepsRoom}
 use Rattle.channel_model.specs.Amounts.{room_of}
-use Rattle.worker_port.proofs.PortLaws.{bare_new}
+use Rattle.ring_machine.specs.declared.state.EndState.{EndState}
+use Rattle.worker_requester.specs.Asking.{FitsPages}
 use Rattle.worker_requester.proofs.requester.Requester.make.Goals as goal
 
 pub over-requires-clause-fresh : goal.over-requires-clause-fresh
@@ -23,8 +24,8 @@ over-requires-clause-window g c = (c.args.window, c.requires.window.1, c.in-Ok-m
 pub returns-in-Ok-make-clause-window : goal.returns-in-Ok-make-clause-window
 returns-in-Ok-make-clause-window g c = let none : Option ℕ = None in ap length (c.over.ensures.parts.1 ∙ c.in-Ok-make.ensures.table) ∙ length-replicate c.args.window none
 
-pub with_room-requires-clause-fresh : goal.with_room-requires-clause-fresh
-with_room-requires-clause-fresh g c = bare_new c.args.end c.requires.fresh
-
 pub over-requires-clause-pages : goal.over-requires-clause-pages
-over-requires-clause-pages g c = ap (λ s. s.pages.count) (c.in-Ok.ensures.end.0 ∙ c.requires.fresh)
+over-requires-clause-pages g c =
+    let none : Option ℕ = None in
+    let size = ap length c.in-Ok-make.ensures.table ∙ length-replicate c.args.window none in
+    subst (λ (z : ℕ × EndState). FitsPages (g.T.Protocol.lends c.args.protocol) z.0 z.1) (λ i. (sym size i, sym c.in-Ok.ensures.end.0 i)) c.requires.pages

@@ -1,7 +1,9 @@
-use Rattle.std.proofs.Common.{ap, ◌∙◌, sym}
+use Rattle.std.proofs.Common.{ap, ◌∙◌, sym, length}
 use Rattle.channel_trace.specs.Runs.{sent_of}
 use Rattle.worker_requester.proofs.AskSteps.{still_kept, holds_on}
 use Rattle.worker_port.proofs.RoomLaws.{room_quiet, got_same}
+use Rattle.worker_requester.specs.Asking.{is_open_in}
+use Rattle.worker_requester.proofs.HomeSteps.{home_quiet, pages_on}
 use Rattle.worker_requester.proofs.requester.Requester.poll_asleep.Goals as goal
 
 pub invariant_of-self-2 : goal.invariant_of-self-2
@@ -10,8 +12,8 @@ invariant_of-self-2 g c =
     let l = c.self.invariant (ap (λ w. w.end.state.machine.marked) v ∙ c.requires.unmarked) in
     let r = l.live.rests (ap (λ w. w.end.state.machine.asleep) v ∙ c.requires.asleep) in
     λ _. record {
-      bare = l.bare;
-      pages = c.poll.ensures.stays.same.pages ∙ l.pages;
+      pages = pages_on (g.T.Protocol.lends c.self.inside.protocol) (length c.self.inside.table) c.poll.ensures.stays.same l.pages;
+      home = home_quiet (g.T.Protocol.format c.self.inside.protocol) (g.T.Protocol.asks c.self.inside.protocol) c.self.inside.port.state.past c.poll.new.self.state.past c.self.inside.port.end.state c.poll.new.self.end.state (ap (is_open_in (g.T.Protocol.format c.self.inside.protocol) (g.T.Protocol.asks c.self.inside.protocol)) c.if-poll.ensures.past) c.poll.ensures.home l.home;
       live = still_kept (g.T.Protocol.format c.self.inside.protocol) (g.T.Protocol.keeps c.self.inside.protocol) (g.T.Protocol.asks c.self.inside.protocol) (record {
         protocol = c.self.inside.protocol;
         end = c.self.inside.port;

@@ -1,22 +1,32 @@
-use Rattle.std.proofs.Common.{[], refl, ap, sym, ◌∙◌, subst}
+use Rattle.std.proofs.Common.{refl, ap, sym, ◌∙◌, subst}
 use Rattle.page_kept.specs.Items.{item_of}
 use Rattle.channel_model.specs.Workers.{Owes}
 use Rattle.worker_server.specs.Serving.{own_in}
-use Rattle.worker_server.proofs.ResponderLaws.{serves_fixed, owes_fixed}
+use Rattle.worker_server.specs.Sheets.{read_all}
+use Rattle.worker_server.proofs.ResponderLaws.{fixed_answers, no_messages, serves_fixed, owes_fixed}
 use Rattle.worker_server.proofs.responder.Responder.serve_fixed.Goals as goal
 
 pub returns-clause-serves : goal.returns-clause-serves
 returns-clause-serves g c =
     let v = c.self.view_is in
-    serves_fixed (g.T.Protocol.format c.self.inside.protocol) c.self.inside.held (g.T.Protocol.said (item_of c.args.packet.now [])) _ c.self.inside.left c.args.count c.open_own-own.result c.args.self.now.calls _ c.owe_fixed.new.self refl
-    (ap (λ d. d.left) v ∙ c.requires.count) (ap (λ d. d.calls) v) (ap (λ d. (g.T.Protocol.format d.protocol).read (g.T.Protocol.said (item_of c.args.packet.now []))) v ∙ c.requires.reads) c.owe_fixed.ensures.value
+    serves_fixed (g.T.Protocol.format c.self.inside.protocol) c.self.inside.held (g.T.Protocol.said (item_of c.args.packet.now c.args.words.now)) _ c.self.inside.left c.args.count c.open_own-own.result c.args.self.now.calls _ (read_all g.T.Protocol.said c.owe_fixed.new.self) refl
+    (ap (λ d. d.left) v ∙ c.requires.count) (ap (λ d. d.calls) v) (ap (λ d. (g.T.Protocol.format d.protocol).read (g.T.Protocol.said (item_of c.args.packet.now c.args.words.now))) v ∙ c.requires.reads) c.owe_fixed.ensures.value
 
 pub returns-clause-owes : goal.returns-clause-owes
 returns-clause-owes g c =
     let v = c.self.view_is in
     let s = g.T.Protocol.format c.self.inside.protocol in
     let owes =
-    owes_fixed s (g.T.Protocol.keeps c.self.inside.protocol) (g.T.Protocol.said (item_of c.args.packet.now [])) c.open_own-own.result c.self.inside.table c.open_own-own.new.table c.has_fixed_message-besides.result c.open_own-own.ensures.fits
-    (ap (λ d. (g.T.Protocol.format d.protocol).read (g.T.Protocol.said (item_of c.args.packet.now []))) v ∙ c.requires.reads) c.has_fixed_message-besides.ensures c.open_own-own.ensures.free c.open_own-own.ensures.set c.open_own-own.ensures.same in
-    subst (λ t. Owes s c.owe_fixed.new.self (own_in t) (own_in c.open_own-own.new.table)) (ap (λ d. d.table) v)
+    owes_fixed s (g.T.Protocol.keeps c.self.inside.protocol) (g.T.Protocol.said (item_of c.args.packet.now c.args.words.now)) c.open_own-own.result c.self.inside.table c.open_own-own.new.table c.has_fixed_message-besides.result c.open_own-own.ensures.fits
+    (ap (λ d. (g.T.Protocol.format d.protocol).read (g.T.Protocol.said (item_of c.args.packet.now c.args.words.now))) v ∙ c.requires.reads) c.has_fixed_message-besides.ensures c.open_own-own.ensures.free c.open_own-own.ensures.set c.open_own-own.ensures.same in
+    subst (λ t. Owes s (read_all g.T.Protocol.said c.owe_fixed.new.self) (own_in t) (own_in c.open_own-own.new.table)) (ap (λ d. d.table) v)
     (subst (λ l. Owes s l (own_in c.self.inside.table) (own_in c.open_own-own.new.table)) (sym c.owe_fixed.ensures.value) owes)
+
+pub returns-clause-back : goal.returns-clause-back
+returns-clause-back g c = λ lends alone.
+    let v = c.self.view_is in
+    let t = c.self.inside.protocol in
+    let s = g.T.Protocol.format t in
+    let p = g.T.Protocol.said (item_of c.args.packet.now c.args.words.now) in
+    let no = no_messages s (g.T.Protocol.besides t) alone (g.T.Protocol.may t) in
+    fixed_answers s (g.T.Protocol.keeps t) g.T.Protocol.said p c.open_own-own.result c.owe_fixed.new.self (ap (λ d. (g.T.Protocol.format d.protocol).read p) v ∙ c.requires.reads) (λ b e. no.fixed p b e) c.owe_fixed.ensures.value (c.owe_fixed.ensures.back lends alone)
