@@ -82,7 +82,7 @@ some_mapped : {X Y : Type 0} (f : X → Y) (o : Option X) (y : Y) → mapped f o
 some_mapped f None y h = cc
 some_mapped f (Some x) y h = refl
 
-says_so : {A Q R : Type 0} (x : Codec A Q R) (request : Q → Ask) (reply : R → Reply) (a : A) (before : Option (List ℕ)) (p : List ℕ) (ask : Ask) → mapped request (x.read (x.encode 0 a)) ≡ Some ask → mapped reply (result_in x a before p) ≡ mapped reply (x.said p)
+says_so : {A Q R : Type 0} (x : Codec (List ℕ) A Q R) (request : Q → Ask) (reply : R → Reply) (a : A) (before : Option (List ℕ)) (p : List ℕ) (ask : Ask) → mapped request (x.read (x.encode 0 a)) ≡ Some ask → mapped reply (result_in x a before p) ≡ mapped reply (x.said p)
 says_so x request reply a before p ask h = rw (some_mapped request (x.read (x.encode 0 a)) ask h) refl
 
 net_says : (ask : Ask) (before : Option (List ℕ)) (p : List ℕ) → CanBe IsNetAsk (net_request ask) → (format_of Net).result (Script ask) before p ≡ said_on Net before p

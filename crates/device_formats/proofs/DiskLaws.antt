@@ -89,14 +89,14 @@ start_formed operation first = record {
   bytes = with_number_bytes 0 2 first (replicate 52 0) (zero_bytes 52);
 }
 
-start_is_formed : (k : ℕ) → Formed (start_vstor k)
+pub start_is_formed : (k : ℕ) → Formed (start_vstor k)
 start_is_formed zero = start_formed BeginInitialization 0
 start_is_formed (suc zero) = start_formed QueryProtocolVersion 0x0602
 start_is_formed (suc (suc zero)) = start_formed QueryProperties 0
 start_is_formed (suc (suc (suc zero))) = start_formed EndInitialization 0
 start_is_formed (suc (suc (suc (suc n)))) = start_formed CreateSubChannels (n + 1)
 
-start_allowed : (k : ℕ) → IsAllowed (start_vstor k)
+pub start_allowed : (k : ℕ) → IsAllowed (start_vstor k)
 start_allowed zero = (refl, λ other. refl)
 start_allowed (suc zero) = (refl, λ other. refl)
 start_allowed (suc (suc zero)) = (refl, λ other. refl)
@@ -111,7 +111,7 @@ start_asks_nothing (suc (suc zero)) more = refl
 start_asks_nothing (suc (suc (suc zero))) more = refl
 start_asks_nothing (suc (suc (suc (suc n)))) more = refl
 
-none_are_bytes : IsBytes []
+pub none_are_bytes : IsBytes []
 none_are_bytes i = omega arith
 
 pub start_waits : (id k : ℕ) → disk_waits (disk_start id k) ≡ true
@@ -124,7 +124,7 @@ start_read id k = read_sent id (start_vstor k) [] (in_form (start_vstor k) (star
 
 -- requests of the disk
 
-rest_formed : (k : Option Command) (cdb : List ℕ) (n : ℕ) → length cdb ≡ 16 → IsBytes cdb → (length (ask_rest k cdb n) ≡ 52) × IsBytes (ask_rest k cdb n)
+pub rest_formed : (k : Option Command) (cdb : List ℕ) (n : ℕ) → length cdb ≡ 16 → IsBytes cdb → (length (ask_rest k cdb n) ≡ 52) × IsBytes (ask_rest k cdb n)
 rest_formed k cdb n len bytes =
     let a0 = replicate {A = ℕ} 52 0 in
     let a1 = with_number 0 2 52 a0 in

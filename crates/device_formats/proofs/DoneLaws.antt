@@ -123,7 +123,7 @@ sense_bytes key asc ascq k a q =
     let z : 0 < 256 = lit< tt in
     from_all (sense_of key asc ascq) (lit< tt, (z, (k, (z, (z, (z, (z, (lit< tt, (z, (z, (z, (z, (a, (q, (z, (z, (z, (z, tt))))))))))))))))))
 
-reply_formed : (v : Vstor) (q : DiskRequest) (r : DiskReply) → Formed v → disk_fits q r ≡ true → Formed (reply_of v r)
+pub reply_formed : (v : Vstor) (q : DiskRequest) (r : DiskReply) → Formed v → disk_fits q r ≡ true → Formed (reply_of v r)
 reply_formed v q (Good bytes) f h =
     let m = moved_by (command_of (cdb_in v)) (length bytes) in
     let r1 = with_number 2 1 1 v.rest in

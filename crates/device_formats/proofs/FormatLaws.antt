@@ -72,7 +72,7 @@ net_replied _ r h = cc
 among_services : IsAmong services
 among_services = record { found = λ q. refl; whole = service_replied }
 
-among_disks : IsAmong disks
+pub among_disks : IsAmong disks
 among_disks = record { found = λ q. refl; whole = disk_replied }
 
 among_nets : IsAmong nets
@@ -140,7 +140,7 @@ start_is_fixed Disk (suc s) subs = tt
 start_is_fixed Net (suc s) subs = tt
 
 -- a request of this kind that can be asked is what is read
-asked_so : {Q R : Type 0} (x : Codec (WantOf Q) Q R) (request : Q → Ask) (Can : Q → Type 0) (id : ℕ) → ((q : Q) → Can q → x.read (x.encode id (Request q)) ≡ Some q) → (ask : Ask) (o : Option Q) → ((q : Q) → o ≡ Some q → request q ≡ ask)
+asked_so : {Q R : Type 0} (x : Codec (List ℕ) (WantOf Q) Q R) (request : Q → Ask) (Can : Q → Type 0) (id : ℕ) → ((q : Q) → Can q → x.read (x.encode id (Request q)) ≡ Some q) → (ask : Ask) (o : Option Q) → ((q : Q) → o ≡ Some q → request q ≡ ask)
     → CanBe Can o → mapped request (x.read (x.encode id (or_else (Step 0) (mapped Request o)))) ≡ Some ask
 asked_so x request Can id asked ask None whole can = absurd can
 asked_so x request Can id asked ask (Some q) whole can = ap (mapped request) (asked q can) ∙ ap Some (whole q refl)
@@ -218,7 +218,7 @@ pub record Replied {Q R : Type 0} (read : Option Q) (fits : Q → R → Bool) (r
   pub is : reply ≡ Some replied
   pub holds : fits asked replied ≡ true
 
-replied_so : {Q R : Type 0} (fits : Q → R → Bool) (request : Q → Ask) (own : Ask → Option Q) → ((q : Q) → own (request q) ≡ Some q) → (read : Option Q) (ask : Ask) (q : Option Q) (reply : Option R) → own ask ≡ q
+pub replied_so : {Q R : Type 0} (fits : Q → R → Bool) (request : Q → Ask) (own : Ask → Option Q) → ((q : Q) → own (request q) ≡ Some q) → (read : Option Q) (ask : Ask) (q : Option Q) (reply : Option R) → own ask ≡ q
     → mapped request read ≡ Some ask → both_hold fits q reply ≡ true → Replied read fits reply
 replied_so fits request own found None ask q reply is h holds = cc
 replied_so fits request own found (Some x) ask None reply is h holds = cc

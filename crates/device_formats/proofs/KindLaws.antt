@@ -58,6 +58,8 @@ module _ (kind : DeviceKind) where
     waits_alike = service_waits;
     read_alike = service_alike;
     unread = service_unread;
+    closes = λ p r. refl;
+    closes_fixed = λ p. refl;
     reads = service_reads;
   }
 
@@ -102,6 +104,8 @@ disk_sound = record {
   waits_alike = waits_alike;
   read_alike = read_alike;
   unread = disk_unread;
+  closes = λ p r. refl;
+  closes_fixed = λ p. refl;
   reads = λ id a q r h fits. disk_reply_read (disk_encode id a) q r h fits;
 }
 

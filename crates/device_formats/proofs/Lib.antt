@@ -10,3 +10,8 @@ pub mod FormatLaws
 pub mod ChannelScriptLaws
 pub mod NetLaws
 pub mod ItemFormatLaws
+pub mod SpanLaws
+pub mod PageDiskLaws
+pub mod PageDoneLaws
+pub mod SaidLaws
+pub mod PageFormatLaws

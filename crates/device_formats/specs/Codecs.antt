@@ -1,6 +1,5 @@
 -- Channels on which one packet answers each request.
-use Rattle.std.specs.Prelude.{ℕ, Bool, true, false, ◌&&◌, List, Option, Some, None, is_some, is_none, if◌then◌else◌}
-use Rattle.pkt_desc.specs.Packets.{id_of}
+use Rattle.std.specs.Prelude.{ℕ, Bool, true, false, ◌&&◌, Option, Some, None, is_some, is_none, if◌then◌else◌}
 use Rattle.channel_model.specs.WireFormat.{WireFormat, Back}
 
 -- what the end that asks has to ask of a device of one kind: a step of the start-up, or a request
@@ -8,30 +7,34 @@ pub data WantOf (Q : Type 0) : Type 0 where
   Step : ℕ → WantOf Q
   Request : Q → WantOf Q
 
--- what the packets of one kind of channel say. A are the asks, Q the device's requests, R its replies
-pub record Codec (A Q R : Type 0) : Type 0 where
+-- what the packets of one kind of channel say. P are the packets, A the asks, Q the device's requests, R its replies
+pub record Codec (P A Q R : Type 0) : Type 0 where
+  -- the id of a packet
+  pub id : P → ℕ
+  -- a packet of the end that serves is an answer
+  pub answers : P → Bool
   -- the packet that asks, under an id
-  pub encode : ℕ → A → List ℕ
+  pub encode : ℕ → A → P
   -- a packet has an answer
-  pub waits : List ℕ → Bool
+  pub waits : P → Bool
   -- what a packet asks of the device
-  pub read : List ℕ → Option Q
+  pub read : P → Option Q
   -- the answer to a packet that asks nothing of it
-  pub fixed : List ℕ → List ℕ
+  pub fixed : P → P
   -- the device may reply so
   pub fits : Q → R → Bool
   -- the answer with its reply
-  pub answer : List ℕ → R → List ℕ
+  pub answer : P → R → P
   -- what an answer says
-  pub said : List ℕ → Option R
+  pub said : P → Option R
 
 -- an answer that goes back with no message besides
-abbrev pub alone : List ℕ → Back (List ℕ)
+abbrev pub alone : {P : Type 0} → P → Back P
 alone p = record { message = None; answer = p }
 
-module _ {A Q R : Type 0} (x : Codec A Q R) where
+module _ {P A Q R : Type 0} (x : Codec P A Q R) where
   -- what goes back for a packet that asks nothing of the device
-  abbrev pub fixed_back : List ℕ → Option (Back (List ℕ))
+  abbrev pub fixed_back : P → Option (Back P)
   fixed_back p = if x.waits p && is_none (x.read p) then Some (alone (x.fixed p)) else None
 
   -- whether an ask asks the device: under whatever id
@@ -39,19 +42,19 @@ module _ {A Q R : Type 0} (x : Codec A Q R) where
   asks_device a = is_some (x.read (x.encode 0 a))
 
   -- what an answer says to an ask, where that asks the device
-  abbrev pub result_in : A → Option (List ℕ) → List ℕ → Option R
+  abbrev pub result_in : A → Option P → P → Option R
   result_in a before p = if asks_device a then x.said p else None
 
   -- what both ends of such a channel say: all packets are requests or answers, and there are no messages
-  abbrev pub format_by : WireFormat (List ℕ) A Q R
+  abbrev pub format_by : WireFormat P A Q R
   format_by = record {
-    id_of = λ p. id_of p;
+    id_of = x.id;
     is_request = λ p. true;
     waits = x.waits;
     is_ack = λ p. false;
-    is_answer = λ p. true;
+    is_answer = x.answers;
     is_message = λ p. false;
-    ack = λ p. p;
+    ack = x.fixed;
     encode = x.encode;
     has_answer = λ a. x.waits (x.encode 0 a);
     read = x.read;

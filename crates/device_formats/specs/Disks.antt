@@ -1,5 +1,5 @@
 -- What the packets of a disk's channel say: the guest asks the disk of the host.
-use Rattle.std.specs.Prelude.{ℕ, zero, suc, ◌+◌, ◌≡◌, ◌≤◌, ◌<◌, ◌==◌, Bool, ◌&&◌, nat_le, nat_lt, List, [], ◌++◌, length, drop, Option, Some, None, IsSome, is_none, Result, Ok, Err, if◌then◌else◌}
+use Rattle.std.specs.Prelude.{ℕ, zero, suc, ◌+◌, ◌≡◌, ◌≤◌, ◌<◌, ◌==◌, Bool, true, ◌&&◌, nat_le, nat_lt, List, [], ◌++◌, length, drop, Option, Some, None, IsSome, is_none, Result, Ok, Err, if◌then◌else◌}
 use Rattle.std.specs.List.{AllByRecursion, list_all}
 use Rattle.scsi_disk.specs.Commands.{command_of}
 use Rattle.scsi_disk.specs.DiskModel.{most_back}
@@ -101,8 +101,10 @@ disk_encode id (Step k) = disk_start id k
 disk_encode id (Request q) = disk_ask id q
 
 -- the channel of a disk
-abbrev pub disk_codec : Codec (WantOf DiskRequest) DiskRequest DiskReply
+abbrev pub disk_codec : Codec (List ℕ) (WantOf DiskRequest) DiskRequest DiskReply
 disk_codec = record {
+  id = λ p. id_of p;
+  answers = λ p. true;
   encode = disk_encode;
   waits = disk_waits;
   read = disk_read;

@@ -2,9 +2,12 @@ pub mod Packets
 pub mod Codecs
 pub mod Services
 pub mod Disks
+pub mod Items
+pub mod PageDisks
 pub mod Nets
 pub mod Kinds
 pub mod Wants
 pub mod Formats
 pub mod ItemFormats
+pub mod PageFormats
 pub mod ChannelScript

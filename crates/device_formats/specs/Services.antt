@@ -1,5 +1,5 @@
 -- What the packets of a utility channel say: the host asks a service of the guest.
-use Rattle.std.specs.Prelude.{ℕ, ◌==◌, Bool, ◌&&◌, List, Option, Some, None, if◌then◌else◌}
+use Rattle.std.specs.Prelude.{ℕ, ◌==◌, Bool, true, ◌&&◌, List, Option, Some, None, if◌then◌else◌}
 use Rattle.contact.specs.declared.kind.DeviceKind.{DeviceKind}
 use Rattle.util_ic.specs.declared.ic.IcAsk.{IcAsk}
 use Rattle.util_ic.specs.declared.ic.IcAnswer.{IcAnswer}
@@ -35,8 +35,10 @@ service_encode id (Step k) = negotiate_packet id
 service_encode id (Request ask) = ask_packet id ask
 
 -- the channel of a service of this kind: each in-band packet has an answer
-abbrev pub service_codec : DeviceKind → Codec (WantOf IcAsk) IcAsk IcAnswer
+abbrev pub service_codec : DeviceKind → Codec (List ℕ) (WantOf IcAsk) IcAsk IcAnswer
 service_codec kind = record {
+  id = λ p. id_of p;
+  answers = λ p. true;
   encode = service_encode;
   waits = is_inband;
   read = service_read kind;

@@ -1,23 +1,38 @@
 //! Laws of what the packets of each kind of channel say: each function does nothing, and its contract is a law.
-ghost use Rattle.std.specs.Prelude.{◌≡◌, ℕ, ◌≤◌, true, List, Some, Ok, map};
+ghost use Rattle.std.specs.Prelude.{◌≡◌, ◌≢◌, ℕ, ◌≤◌, ◌<◌, ◌*◌, true, List, [], Some, None, Ok, length, map, take};
 ghost use Rattle.std.specs.List.{AllByRecursion};
 ghost use Rattle.contact.specs.declared.kind.DeviceKind.{DeviceKind};
-ghost use Rattle.contact.specs.declared.kind.DeviceKind.TheVariants.{Net};
+ghost use Rattle.contact.specs.declared.kind.DeviceKind.TheVariants.{Disk, Net};
+ghost use Rattle.vm_page.specs.Words.{bytes_in};
+ghost use Rattle.pkt_desc.specs.Packets.{id_of};
+ghost use Rattle.page_kept.specs.declared.item.Item.{Item};
+ghost use Rattle.page_kept.specs.Items.{item_of};
+ghost use Rattle.scsi_disk.specs.Commands.{command_of};
+ghost use Rattle.scsi_disk.specs.DiskModel.{most_back};
+ghost use Rattle.scsi_disk.specs.declared.request.DiskRequest.{DiskRequest};
+ghost use Rattle.scsi_disk.specs.declared.reply.DiskReply.{DiskReply};
+ghost use Rattle.stor_proto.specs.Opening.{answer_of};
+ghost use Rattle.stor_proto.specs.Srbs.{request_of, stop_of};
+ghost use Rattle.channel_protocol.specs.Paged.{KeepsPages};
 ghost use Rattle.rndis_msg.specs.declared.rndis.Rndis.{Rndis as Message};
 ghost use Rattle.net_dev.specs.declared.reply.NetReply.{NetReply};
 ghost use Rattle.net_dev.specs.Station.{Keeps as StationKeeps};
 ghost use Rattle.script_lines.specs.Requests.{IsSent};
 ghost use Rattle.script_lines.specs.declared.line.Ask.{Ask};
-ghost use Rattle.script_lines.specs.declared.line.Ask.TheVariants.{Net as AskNet};
+ghost use Rattle.script_lines.specs.declared.line.Ask.TheVariants.{Disk as AskDisk, Net as AskNet};
 ghost use Rattle.bus_script.specs.declared.outcome.Reply.TheVariants.{Net as ReplyNet};
 ghost use Rattle.channel_model.specs.WireFormat.{Keeps};
 ghost use Rattle.channel_model.specs.Amounts.{MayHaveMessages};
 ghost use Rattle.channel_model.specs.Channel.{AllFixed, AllAsk};
 ghost use Rattle.device_formats.specs.Codecs.{format_by};
-ghost use Rattle.device_formats.specs.Disks.{disk_codec};
+ghost use Rattle.device_formats.specs.Disks.{vstor_of, done_packet, disk_fits, disk_codec};
+ghost use Rattle.device_formats.specs.Items.{said_item};
+ghost use Rattle.device_formats.specs.PageDisks.{page_waits, lacks_page, page_read, page_fixed, page_answer, IsPageAsk};
+ghost use Rattle.device_formats.specs.PageFormats.{page_format, lends_on};
 ghost use Rattle.device_formats.specs.Nets.{net_format};
 ghost use Rattle.device_formats.specs.Services.{service_codec};
-ghost use Rattle.device_formats.specs.declared.want.Want.TheVariants.{Script};
+ghost use Rattle.device_formats.specs.declared.want.Want.{Want};
+ghost use Rattle.device_formats.specs.declared.want.Want.TheVariants.{Starts, Script};
 ghost use Rattle.device_formats.specs.Wants.{startup, AsksForSubs, IsAskable};
 ghost use Rattle.device_formats.specs.ItemFormats.{item_format};
 ghost use Rattle.device_formats.specs.Formats.{asked_as, besides_on, encode_on, read_on, fits_on, format_of};
@@ -70,4 +85,37 @@ pub fn adapter_replies_fit()
 /// The device is asked exactly what the script asked; a message for an adapter that has a request id has that of its packet.
 pub fn asks_what_was_asked()
     ensures { (kind : DeviceKind) (id : ℕ) (ask : Ask) → IsAskable kind ask → read_on kind (encode_on kind id (Script ask)) ≡ Some (asked_as id ask) }
+{}
+
+/// Over data pages the items of each kind of channel keep to these laws too, and those of a disk's channel to what pages ask: a request lends the page of its id
+/// or none, and a completion brings back no more words than came.
+pub fn pages_keep()
+    ensures keeps { (kind : DeviceKind) → Keeps (page_format kind) }
+    ensures may { (kind : DeviceKind) → MayHaveMessages (page_format kind) (besides_on kind) }
+    ensures pages { (kind : DeviceKind) → lends_on kind ≡ true → KeepsPages (page_format kind) }
+{}
+
+/// Over data pages the disk is asked exactly what the script asked, and a start-up asks nothing of it.
+pub fn pages_ask_what_was_asked()
+    ensures script { (id : ℕ) (request : DiskRequest) → IsPageAsk request → (page_format Disk).read ((page_format Disk).encode id (Script (AskDisk request))) ≡ Some (AskDisk request) }
+    ensures start { (id step : ℕ) → (page_format Disk).read ((page_format Disk).encode id (Starts step)) ≡ None }
+{}
+
+/// An srb that came without the page that it names asks nothing of the disk, and is stopped with status 4.
+pub fn an_srb_without_its_page_is_stopped()
+    ensures { (i : Item) → page_waits i ≡ true → lacks_page i ≡ true → (vstor_of i.packet).operation ≡ 3 → (page_read i ≡ None) × (page_fixed i ≡ item_of (done_packet (id_of i.packet) (stop_of (vstor_of i.packet) 4) []) []) }
+{}
+
+/// And so is one whose reply has no room in its page, if it is for the disk.
+pub fn an_srb_without_room_is_stopped()
+    ensures { (i : Item) (request : DiskRequest) → page_waits i ≡ true → (vstor_of i.packet).operation ≡ 3 → request_of (vstor_of i.packet) (bytes_in i.words) ≡ Ok request → 8 * length i.words < most_back (command_of request.cdb) → (page_read i ≡ None) × (page_fixed i ≡ item_of (done_packet (id_of i.packet) (stop_of (vstor_of i.packet) 4) []) []) }
+{}
+
+/// Whatever stood in a page before, and stands behind what came, what an item says is read of it: what was asked, what is answered, and nothing where the answer is
+/// fixed.
+pub fn pages_are_read_as_meant()
+    ensures asked { (id : ℕ) (ask : Want) → said_item ((page_format Disk).encode id ask) ≡ (page_format Disk).encode id ask }
+    ensures answered { (i : Item) (request : DiskRequest) (reply : DiskReply) (came : Item) → page_read i ≡ Some request → disk_fits request reply ≡ true → came.packet ≡ (page_answer i reply).packet → take (length (page_answer i reply).words) came.words ≡ (page_answer i reply).words → said_item came ≡ page_answer i reply }
+    ensures fixed { (i came : Item) → page_waits i ≡ true → came.packet ≡ (page_fixed i).packet → length came.words ≤ length i.words → said_item came ≡ page_fixed i }
+    ensures start { (i : Item) → i.words ≡ [] → (vstor_of i.packet).operation ≢ 3 → page_fixed i ≡ item_of (done_packet (id_of i.packet) (answer_of (vstor_of i.packet)) []) [] }
 {}

@@ -3,3 +3,4 @@ pub mod FrontLaws
 pub mod HeadLaws
 pub mod CameLaws
 pub mod PutLaws
+pub mod PageHeadLaws

@@ -530,7 +530,7 @@ impl Protocol for DeviceProtocol {
     ghost use Rattle.device_formats.specs.ChannelScript.{asks_of};
     ghost use Rattle.device_formats.specs.Wants.{startup};
     ghost use Rattle.device_formats.specs.declared.want.Want.TheVariants.{Script};
-    ghost use Rattle.device_formats.proofs.ItemFormatLaws.{keeps_items, may_items};
+    ghost use Rattle.device_formats.proofs.ItemFormatLaws.{keeps_items, may_items, none_lends, said_all};
     ghost use Rattle.device_formats.proofs.ChannelScriptLaws.{starts_within};
     ghost use Rattle.device_protocols.specs.Heads.{IsHead};
 
@@ -548,11 +548,15 @@ impl Protocol for DeviceProtocol {
 
     ghost said_packet = { λ i. refl };
 
+    ghost said_few = { λ i. said_all i };
+
     ghost said_bare = { λ p. refl };
 
     ghost format = { λ s. item_format s.kind };
 
     ghost lends = { λ s. false };
+
+    ghost paged = { λ s e. none_lends s.kind e };
 
     ghost keeps = { λ s. keeps_items s.kind };
 

@@ -36,7 +36,7 @@ const MOST_DATA: usize = 2_048;
 const MOST_BEHIND: usize = MOST_BYTES - 64;
 
 /// The bytes of a storage packet.
-fn spelled(v: &Vstor) -> [u8; 64]
+pub(crate) fn spelled(v: &Vstor) -> [u8; 64]
     requires { IsAllowed v.now }
     ensures { result ≡ vstor_bytes v.now }
 {
@@ -75,7 +75,7 @@ fn write_sent_with(id: u64, v: &Vstor, more: &[u8], out: &mut [u64]) -> usize
 
 /// Writes a packet of the guest: its words. Where it has no data, its 64 bytes are all that is made.
 #[tactic(auto, unfolding(device_formats::specs::Disks::sent_packet))]
-fn write_sent(id: u64, v: &Vstor, more: &[u8], out: &mut [u64]) -> usize
+pub(crate) fn write_sent(id: u64, v: &Vstor, more: &[u8], out: &mut [u64]) -> usize
     requires allowed { IsAllowed v.now }
     requires few { length more.now ≤ 2048 }
     requires out { length out.old ≡ 384 }
@@ -107,7 +107,7 @@ fn write_done_with(id: u64, v: &Vstor, more: &[u8], out: &mut [u64]) -> usize
 
 /// Writes a packet of the host: its words. Where it has no data, its 64 bytes are all that is made.
 #[tactic(auto, unfolding(device_formats::specs::Disks::done_packet))]
-fn write_done(id: u64, v: &Vstor, more: &[u8], out: &mut [u64]) -> usize
+pub(crate) fn write_done(id: u64, v: &Vstor, more: &[u8], out: &mut [u64]) -> usize
     requires allowed { IsAllowed v.now }
     requires few { length more.now ≤ 2048 }
     requires out { length out.old ≡ 384 }
@@ -165,7 +165,7 @@ pub(crate) fn write_disk_ask(request: &DiskRequest, id: u64, out: &mut [u64]) ->
 }
 
 /// The storage packet with which a packet's payload begins, if it does. No more than its 64 bytes are read.
-fn front(packet: &[u64]) -> Option<Vstor>
+pub(crate) fn front(packet: &[u64]) -> Option<Vstor>
     requires { IsPacket packet.now }
     ensures { MatchOption result (has_vstor packet.now ≡ false)
         (λ v. (has_vstor packet.now ≡ true) × (v ≡ vstor_of packet.now) × IsAllowed v) }
@@ -363,7 +363,7 @@ fn ended(packet: &[u64]) -> Option<SrbEnd>
 }
 
 /// Puts the reply that gives these bytes at the end of the replies. It is made where it stays.
-fn keep_bytes(bytes: &[u8], replies: &mut Vec<Reply>)
+pub(crate) fn keep_bytes(bytes: &[u8], replies: &mut Vec<Reply>)
     requires few { length bytes.now ≤ 4096 }
     requires room { vec_len replies.old < vec_capacity replies.old }
     ensures told { replies.new.items ≡ replies.old.items ++ ReplyDisk (Good bytes.now) ∷ [] }

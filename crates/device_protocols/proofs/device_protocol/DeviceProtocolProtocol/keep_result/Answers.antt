@@ -1,4 +1,4 @@
-use Rattle.std.proofs.Common.{◌≡◌, ◌++◌, Option, List, ℕ, ap, sym, ◌∙◌}
+use Rattle.std.proofs.Common.{◌++◌, Option, List, ℕ, ap, sym, ◌∙◌}
 use Rattle.channel_model.specs.WireFormat.{listed}
 use Rattle.device_formats.specs.Formats.{format_of}
 use Rattle.channel_protocol.proofs.InPackets.{before_is}

@@ -1,0 +1,357 @@
+-- The items of a disk's channel keep to the laws of a wire format, and to what data pages ask.
+use Rattle.std.proofs.Common.{◌≡◌, ◌≢◌, ℕ, zero, suc, ◌+◌, ◌-◌, ◌≤◌, ◌==◌, ◌⊎◌, ⊎_elim, Bool, true, false, cond, ◌&&◌, List, [], ◌∷◌, length, take, replicate, Some, None, refl, sym, ap, subst, ◌∙◌, arith, Ok, ◌*◌, min, ◌<◌, Option}
+use Rattle.std.specs.Prelude.{is_none, nat_le}
+use Rattle.std.proofs.lemmas.Bool.Decides.{nat_tests}
+use Rattle.std.proofs.lemmas.List.{length-replicate, length-take, take_all}
+use Rattle.vm_page.specs.Words.{words_for, bytes_in, words_of}
+use Rattle.vm_page.proofs.WordLaws.{length-words_from, length-bytes_in}
+use Rattle.pkt_desc.specs.Packets.{id_of, kind_of}
+use Rattle.pkt_desc.specs.Lending.{lent_of}
+use Rattle.pkt_desc.specs.declared.loan.Lent.{Lent}
+use Rattle.page_kept.specs.declared.item.Item.{Item}
+use Rattle.page_kept.specs.Items.{item_of}
+use Rattle.contact.specs.declared.kind.DeviceKind.{DeviceKind}
+use Rattle.contact.specs.declared.kind.DeviceKind.TheVariants.{Beat, Down, Disk, Net}
+use Rattle.scsi_disk.specs.declared.request.DiskRequest.{DiskRequest}
+use Rattle.scsi_disk.specs.declared.reply.DiskReply.{DiskReply}
+use Rattle.stor_proto.specs.Opening.{answer_of}
+use Rattle.stor_proto.specs.Srbs.{ask_of, data_in, bytes_moved, request_of, stop_of}
+use Rattle.script_lines.specs.declared.line.Ask.{Ask}
+use Rattle.script_lines.specs.declared.line.Ask.TheVariants.{Disk as AskDisk}
+use Rattle.bus_script.specs.declared.outcome.Reply.{Reply}
+use Rattle.channel_model.specs.WireFormat.{Keeps, Back}
+use Rattle.channel_model.specs.Amounts.{HasNoMessages, MayHaveMessages}
+use Rattle.channel_model.specs.Lift.{mapped, or_else, both_hold}
+use Rattle.channel_model.proofs.Lifting.{lifts}
+use Rattle.channel_protocol.specs.Paged.{KeepsPages, LendsOwnPage, words_lent, lent_len, Lays}
+use Rattle.scsi_disk.specs.DiskModel.{most_back}
+use Rattle.scsi_disk.specs.Commands.{command_of}
+use Rattle.scsi_disk.specs.declared.command.Command.{Command}
+use Rattle.scsi_disk.specs.declared.command.Command.TheVariants.{TestUnitReady, Inquiry, ReadCapacity, Read as ReadBlocks, Write, SynchronizeCache, LongCapacity}
+use Rattle.stor_proto.specs.declared.vstor.Vstor.{Vstor}
+use Rattle.device_formats.specs.declared.want.Want.{Want}
+use Rattle.device_formats.specs.declared.want.Want.TheVariants.{Starts, Script}
+use Rattle.device_formats.specs.Codecs.{WantOf, Step, Request, alone, format_by}
+use Rattle.device_formats.specs.Disks.{sent_packet, done_packet, back_of, disk_fits, start_vstor, disk_start, vstor_of, stopped_by}
+use Rattle.device_formats.specs.Formats.{besides_on}
+use Rattle.device_formats.specs.Items.{reads_into, came_in, said_item}
+use Rattle.device_formats.specs.Kinds.{disk_request, disk_reply, disks}
+use Rattle.device_formats.specs.PageDisks.{page_waits, page_read, page_fixed, page_answer, bytes_of_ask, words_asked, direct_packet, page_ask, fits_page, IsPageAsk, page_encode, page_codec, lacks_page, with_room, srb_asked, page_fixed_vstor}
+use Rattle.device_formats.specs.PageFormats.{page_format, lends_on}
+use Rattle.device_formats.proofs.CodecLaws.{Sound, codec_keeps, codec_silent}
+use Rattle.device_formats.proofs.DiskLaws.{by_test, start_is_formed}
+use Rattle.device_formats.proofs.DoneLaws.{back_fits}
+use Rattle.device_formats.proofs.FormatLaws.{Replied, replied_so, among_disks}
+use Rattle.device_formats.proofs.ItemFormatLaws.{keeps_items, may_items}
+use Rattle.device_formats.proofs.SpanLaws.{direct_lends_any, sent_lends}
+use Rattle.device_formats.proofs.PageDiskLaws.{sent_kind, Fits, fits_from, ask_formed, ask_none, ask_some, start_read, waits_always, read_alike, ask_read, fits_can, asked_long}
+use Rattle.device_formats.proofs.PageDoneLaws.{page_asks, done_kind, reply_read}
+use Rattle.device_formats.proofs.SaidLaws.{waits_kind, said_bare, said_answer, said_fixed, said_ask}
+
+-- the laws of a wire format
+
+id_start : (id k : ℕ) → id_of (disk_start id k) ≡ id
+unfolding disk_start sent_packet
+id_start id k = refl
+
+id_asked : (id : ℕ) (q : DiskRequest) (b : Bool) → id_of (cond b (item_of (sent_packet id (ask_of q) []) []) (item_of (direct_packet id (bytes_of_ask q) (ask_of q)) (words_asked q))).packet ≡ id
+unfolding sent_packet direct_packet
+id_asked id q true = refl
+id_asked id q false = refl
+
+id_ask : (id : ℕ) (q : DiskRequest) → id_of (page_ask id q).packet ≡ id
+unfolding page_ask
+id_ask id q = id_asked id q (bytes_of_ask q == 0)
+
+id_encoded : (id : ℕ) (a : WantOf DiskRequest) → id_of (page_encode id a).packet ≡ id
+id_encoded id (Step k) = id_start id k
+id_encoded id (Request q) = by_test (fits_page q)
+    (λ fits. ap (λ b. id_of (cond b (page_ask id q) (item_of (disk_start id 0) [])).packet) fits ∙ id_ask id q)
+    (λ not. ap (λ b. id_of (cond b (page_ask id q) (item_of (disk_start id 0) [])).packet) not ∙ id_start id 0)
+
+id_fixed : (i : Item) → id_of (page_fixed i).packet ≡ id_of i.packet
+unfolding page_fixed done_packet
+id_fixed i = refl
+
+id_answer : (i : Item) (r : DiskReply) → id_of (page_answer i r).packet ≡ id_of i.packet
+unfolding page_answer done_packet
+id_answer i r = refl
+
+closes : (i : Item) (r : DiskReply) → (kind_of (page_answer i r).packet == 11) ≡ true
+unfolding page_answer
+closes i r = ap (λ k. k == 11) (done_kind _ _)
+
+closes_fixed : (i : Item) → (kind_of (page_fixed i).packet == 11) ≡ true
+unfolding page_fixed
+closes_fixed i = ap (λ k. k == 11) (done_kind _ _)
+
+unread : (i : Item) → page_waits i ≡ false → page_read i ≡ None
+unfolding page_read
+unread i not = rw not refl
+
+page_sound : Sound page_codec
+page_sound = record {
+  id_encoded = id_encoded;
+  id_fixed = id_fixed;
+  id_answer = id_answer;
+  waits_alike = λ id a. waits_always id a ∙ sym (waits_always 0 a);
+  read_alike = read_alike;
+  unread = unread;
+  closes = closes;
+  closes_fixed = closes_fixed;
+  reads = λ id a q r h fits. reply_read (page_encode id a) q r h fits;
+}
+
+pub page_keeps : Keeps (format_by page_codec)
+page_keeps = codec_keeps page_codec page_sound
+
+pub page_silent : HasNoMessages (format_by page_codec)
+page_silent = codec_silent page_codec page_sound
+
+pub keeps_pages : (kind : DeviceKind) → Keeps (page_format kind)
+keeps_pages Beat = keeps_items Beat
+keeps_pages Down = keeps_items Down
+keeps_pages Disk = lifts (format_by page_codec) disks among_disks page_keeps
+keeps_pages Net = keeps_items Net
+
+pub may_pages : (kind : DeviceKind) → MayHaveMessages (page_format kind) (besides_on kind)
+may_pages Beat = may_items Beat
+may_pages Down = may_items Down
+may_pages Disk = record { gives = λ i r. refl; fixed = page_silent.fixed }
+may_pages Net = may_items Net
+
+-- what pages ask
+
+start_other : (k : ℕ) → (start_vstor k).operation ≢ 107
+start_other zero e = absurd (omega (arith, e))
+start_other (suc zero) e = absurd (omega (arith, e))
+start_other (suc (suc zero)) e = absurd (omega (arith, e))
+start_other (suc (suc (suc zero))) e = absurd (omega (arith, e))
+start_other (suc (suc (suc (suc n)))) e = absurd (omega (arith, e))
+
+pub start_lends : (id k : ℕ) → lent_of (disk_start id k) ≡ None
+unfolding disk_start
+start_lends id k = sent_lends id (start_vstor k) (start_is_formed k) (start_other k)
+
+-- what a request lends: its page, and all that it moves
+pub ask_lends : (id : ℕ) (q : DiskRequest) → id ≤ 64 → Fits q → lent_of (page_ask id q).packet ≡ cond (bytes_of_ask q == 0) None (Some (record { page = id - 1; bytes = bytes_of_ask q }))
+ask_lends id q most fits = by_test (bytes_of_ask q == 0)
+    (λ none. rw none (ap (λ (i : Item). lent_of i.packet) (ask_none id q none) ∙ sent_lends id (ask_of q) (ask_formed q fits) (λ e. absurd (omega (arith, e)))))
+    (λ some. rw some (ap (λ (i : Item). lent_of i.packet) (ask_some id q some) ∙ direct_lends_any id (bytes_of_ask q) (ask_of q) most (grind (arith, nat_tests, some)) fits.few))
+
+own_page : (b : Bool) (id n : ℕ) (l : Lent) → 1 ≤ id → cond b None (Some (record { page = id - 1; bytes = n })) ≡ Some l → l.page + 1 ≡ id
+own_page true id n l one h = cc
+own_page false id n l one h =
+    let own : Lent = record { page = id - 1; bytes = n } in
+    let same : own ≡ l = cc in
+    let page : l.page ≡ id - 1 = ap (λ (x : Lent). x.page) (sym same) in
+    omega (arith, page, one)
+
+lends_own : (id : ℕ) (a : WantOf DiskRequest) (l : Lent) → 1 ≤ id → id ≤ 64 → lent_of (page_encode id a).packet ≡ Some l → l.page + 1 ≡ id
+lends_own id (Step k) l one most h = let none = start_lends id k in cc
+lends_own id (Request q) l one most h = by_test (fits_page q)
+    (λ fits. own_page (bytes_of_ask q == 0) id (bytes_of_ask q) l one (sym (ask_lends id q most (fits_from q fits)) ∙ sym (ap (λ b. lent_of (cond b (page_ask id q) (item_of (disk_start id 0) [])).packet) fits) ∙ h))
+    (λ not. let none : lent_of (page_encode id (Request q)).packet ≡ None = ap (λ b. lent_of (cond b (page_ask id q) (item_of (disk_start id 0) [])).packet) not ∙ start_lends id 0 in cc)
+
+start_kind : (id k : ℕ) → kind_of (disk_start id k) ≡ 6
+unfolding disk_start
+start_kind id k = sent_kind id (start_vstor k)
+
+not_done : (p : List ℕ) → (kind_of p ≡ 6) ⊎ (kind_of p ≡ 9) → (kind_of p == 11) ≡ false
+not_done p h = ⊎_elim (λ six. ap (λ k. k == 11) six) (λ nine. ap (λ k. k == 11) nine) h
+
+encode_asks : (id : ℕ) (a : WantOf DiskRequest) → (kind_of (page_encode id a).packet == 11) ≡ false
+encode_asks id a = not_done (page_encode id a).packet (waits_kind (page_encode id a) (waits_always id a))
+
+answer_within : (i : Item) (q : DiskRequest) (r : DiskReply) → page_read i ≡ Some q → disk_fits q r ≡ true → length (page_answer i r).words ≤ length i.words
+unfolding page_answer
+answer_within i q r h fits =
+    let few = (page_asks i q h).few in
+    let back = (back_fits q r fits).0 in
+    omega (arith, few, back, length-bytes_in i.words, length-words_from (words_for (length (back_of r))) (back_of r))
+
+pub disk_replies : (i : Item) (q : Ask) (r : Reply) → mapped AskDisk (page_read i) ≡ Some q → both_hold disk_fits (disk_request q) (disk_reply r) ≡ true → Replied (page_read i) disk_fits (disk_reply r)
+disk_replies i q r h fits = replied_so disk_fits AskDisk disk_request (λ x. refl) (page_read i) q (disk_request q) (disk_reply r) refl h fits
+
+-- the reply that goes back is that of a disk
+pub replied_is : (i : Item) (r : Reply) → (own : Replied (page_read i) disk_fits (disk_reply r)) → page_answer i (or_else disks.other (disk_reply r)) ≡ page_answer i own.replied
+replied_is i r own = ap (λ o. page_answer i (or_else disks.other o)) own.is
+
+back_within : (i : Item) (q : Ask) (r : Reply) → mapped AskDisk (page_read i) ≡ Some q → both_hold disk_fits (disk_request q) (disk_reply r) ≡ true → length (page_answer i (or_else disks.other (disk_reply r))).words ≤ length i.words
+back_within i q r h fits =
+    let own = disk_replies i q r h fits in
+    subst (λ (x : Item). length x.words ≤ length i.words) (sym (replied_is i r own)) (answer_within i own.asked own.replied own.reads own.holds)
+
+fixed_words : (i : Item) → (page_fixed i).words ≡ []
+unfolding page_fixed
+fixed_words i = refl
+
+fixed_if : (b : Bool) (i : Item) (back : Back Item) → cond b (Some (alone (page_fixed i))) None ≡ Some back → back.answer.words ≡ []
+fixed_if true i back is = let same : alone (page_fixed i) ≡ back = cc in ap (λ (b : Back Item). b.answer.words) (sym same) ∙ fixed_words i
+fixed_if false i back is = cc
+
+pub disk_pages : KeepsPages (page_format Disk)
+disk_pages = record {
+  ids = λ i. refl;
+  answers = λ i. refl;
+  acks = λ i is. cc;
+  asks = λ id a. encode_asks id (disks.ask a);
+  waits = λ i is. not_done i.packet (waits_kind i is);
+  messages = λ i is. cc;
+  lent = λ id a l one most has h. lends_own id (disks.ask a) l one most h;
+  silent = λ id a none. let always = waits_always 0 (disks.ask a) in absurd (true_not_false (sym always ∙ none));
+  besides = λ i r. tt;
+  fixed_besides = λ i b is. subst LendsOwnPage (sym (page_silent.fixed i b is)) tt;
+  back = back_within;
+  fixed_back = λ i b is. fixed_if (page_waits i && is_none (page_read i)) i b is;
+  acked = fixed_words;
+}
+  where
+    true_not_false : true ≡ false → ⊥
+    true_not_false e = cc
+
+pub pages_kept : (kind : DeviceKind) → lends_on kind ≡ true → KeepsPages (page_format kind)
+pages_kept Beat lends = cc
+pages_kept Down lends = cc
+pages_kept Disk lends = disk_pages
+pages_kept Net lends = cc
+
+-- what is asked, and how it is read
+
+-- the packet of a start-up or of a request is read as it was meant, whatever stood in its page before
+pub said_start : (id k : ℕ) (j : Item) → j.packet ≡ disk_start id k → length j.words ≡ 0 → said_item j ≡ item_of (disk_start id k) []
+said_start id k j is none = ap (λ p. said_item (item_of p j.words)) is ∙ ap (λ ws. said_item (item_of (disk_start id k) ws)) (none_left j.words none) ∙ said_bare (disk_start id k)
+  where
+    none_left : (ws : List ℕ) → length ws ≡ 0 → ws ≡ []
+    none_left [] e = refl
+    none_left (w ∷ ws) e = absurd (omega (arith, e))
+
+-- no more words are read than came
+said_within : (done reads : Bool) (n : ℕ) (ws : List ℕ) → length (cond done (take n ws) (cond reads (replicate (length ws) 0) ws)) ≤ length ws
+said_within true reads n ws = omega (arith, length-take n ws)
+said_within false true n ws = omega (arith, length-replicate {A = ℕ} (length ws) 0)
+said_within false false n ws = omega arith
+
+pub said_few : (i : Item) → length (said_item i).words ≤ length i.words
+said_few i = said_within (kind_of i.packet == 11) ((kind_of i.packet == 9) && reads_into i.packet) (words_for (came_in i.packet)) i.words
+
+-- a start-up asks nothing of the disk
+pub start_fixed : (id k : ℕ) → (page_format Disk).read ((page_format Disk).encode id (Starts k)) ≡ None
+start_fixed id k = ap (mapped AskDisk) (start_read id k)
+
+-- a request asks it what the script asks
+pub script_read : (id : ℕ) (q : DiskRequest) → IsPageAsk q → (page_format Disk).read ((page_format Disk).encode id (Script (AskDisk q))) ≡ Some (AskDisk q)
+script_read id q can = ap (mapped AskDisk) (ask_read id q can)
+
+-- what is stopped
+
+stops : (v : Vstor) (lacks : Bool) (came : List ℕ) → v.operation ≡ 3 → cond lacks 4 (stopped_by (request_of v came)) ≡ 4 → cond lacks None (with_room (length came) (request_of v came)) ≡ None
+    → (srb_asked v lacks came ≡ None) × (page_fixed_vstor v lacks came ≡ stop_of v 4)
+unfolding srb_asked page_fixed_vstor
+stops v lacks came srb status none =
+    let test : (v.operation == 3) ≡ true = ap (λ n. n == 3) srb in
+    (rw test none, rw test (ap (stop_of v) status))
+
+stopped_item : (i : Item) → page_waits i ≡ true → (srb_asked (vstor_of i.packet) (lacks_page i) (bytes_in i.words) ≡ None) × (page_fixed_vstor (vstor_of i.packet) (lacks_page i) (bytes_in i.words) ≡ stop_of (vstor_of i.packet) 4)
+    → (page_read i ≡ None) × (page_fixed i ≡ item_of (done_packet (id_of i.packet) (stop_of (vstor_of i.packet) 4) []) [])
+unfolding page_read page_fixed
+stopped_item i waits two = (rw waits two.0, ap (λ w. item_of (done_packet (id_of i.packet) w []) []) two.1)
+
+pub stopped_without_page : (i : Item) → page_waits i ≡ true → lacks_page i ≡ true → (vstor_of i.packet).operation ≡ 3 → (page_read i ≡ None) × (page_fixed i ≡ item_of (done_packet (id_of i.packet) (stop_of (vstor_of i.packet) 4) []) [])
+stopped_without_page i waits lacks srb =
+    let v = vstor_of i.packet in
+    let came = bytes_in i.words in
+    stopped_item i waits (subst (λ b. (srb_asked v b came ≡ None) × (page_fixed_vstor v b came ≡ stop_of v 4)) (sym lacks) (stops v true came srb refl refl))
+
+either_four : (b : Bool) → cond {A = ℕ} b 4 4 ≡ 4
+either_four true = refl
+either_four false = refl
+
+either_none : (b : Bool) → cond {A = Option DiskRequest} b None None ≡ None
+either_none true = refl
+either_none false = refl
+
+pub stopped_without_room : (i : Item) (q : DiskRequest) → page_waits i ≡ true → (vstor_of i.packet).operation ≡ 3 → request_of (vstor_of i.packet) (bytes_in i.words) ≡ Ok q → 8 * length i.words < most_back (command_of q.cdb)
+    → (page_read i ≡ None) × (page_fixed i ≡ item_of (done_packet (id_of i.packet) (stop_of (vstor_of i.packet) 4) []) [])
+stopped_without_room i q waits srb is short =
+    let v = vstor_of i.packet in
+    let came = bytes_in i.words in
+    let len = length-bytes_in i.words in
+    let over : nat_le (most_back (command_of q.cdb)) (min (length came) 4096) ≡ false = grind (arith, nat_tests, len, short) in
+    let none : with_room (length came) (request_of v came) ≡ None = ap (with_room (length came)) is ∙ ap (λ b. cond b (Some q) None) over in
+    stopped_item i waits (stops v (lacks_page i) came srb (ap (λ r. cond (lacks_page i) 4 (stopped_by r)) is ∙ either_four (lacks_page i)) (ap (cond (lacks_page i) None) none ∙ either_none (lacks_page i)))
+
+-- items are read as they were meant
+
+said_request : (id : ℕ) (q : DiskRequest) → fits_page q ≡ true → said_item (page_ask id q) ≡ page_ask id q
+said_request id q fits = by_test (bytes_of_ask q == 0)
+    (λ none. subst (λ (x : Item). said_item x ≡ x) (sym (ask_none id q none)) (said_bare (sent_packet id (ask_of q) [])))
+    (λ some.
+    let is = ask_some id q some in
+    let long = ap (λ (x : Item). length x.words) is ∙ asked_long q (λ e. grind (arith, nat_tests, some, e)) in
+    said_ask id q (page_ask id q) (fits_from q fits) refl long (λ _ takes. ap (λ (x : Item). x.words) is ∙ ap (λ b. cond b (replicate (words_for (bytes_of_ask q)) 0) (words_of q.out)) takes))
+
+said_encoded : (id : ℕ) (a : WantOf DiskRequest) → said_item (page_encode id a) ≡ page_encode id a
+said_encoded id (Step k) = said_bare (disk_start id k)
+said_encoded id (Request q) = by_test (fits_page q)
+    (λ fits. subst (λ (x : Item). said_item x ≡ x) (sym (ap (λ b. cond b (page_ask id q) (item_of (disk_start id 0) [])) fits)) (said_request id q fits))
+    (λ not. subst (λ (x : Item). said_item x ≡ x) (sym (ap (λ b. cond b (page_ask id q) (item_of (disk_start id 0) [])) not)) (said_bare (disk_start id 0)))
+
+pub said_asked : (id : ℕ) (a : Want) → said_item ((page_format Disk).encode id a) ≡ (page_format Disk).encode id a
+said_asked id a = said_encoded id (disks.ask a)
+
+answer_words : (i : Item) (r : DiskReply) → (page_answer i r).words ≡ words_of (back_of r)
+unfolding page_answer
+answer_words i r = refl
+
+pub said_answered : (i : Item) (q : DiskRequest) (r : DiskReply) (j : Item) → page_read i ≡ Some q → disk_fits q r ≡ true → j.packet ≡ (page_answer i r).packet → take (length (page_answer i r).words) j.words ≡ (page_answer i r).words → said_item j ≡ page_answer i r
+said_answered i q r j h fits is front = said_answer i q r j h fits is (subst (λ ws. take (length ws) j.words ≡ ws) (answer_words i r) front)
+
+pub said_fixed_so : (i j : Item) → page_waits i ≡ true → j.packet ≡ (page_fixed i).packet → length j.words ≤ length i.words → said_item j ≡ page_fixed i
+said_fixed_so = said_fixed
+
+-- how requests are laid: a write with all of its data, and anything else with room for what may come
+
+whole_write : (k : Option Command) (out : List ℕ) → (data_in k == 1) ≡ false → (bytes_moved k (length out) == 0) ≡ false → bytes_moved k (length out) ≡ length out
+whole_write None out takes some = cc
+whole_write (Some TestUnitReady) out takes some = cc
+whole_write (Some (Inquiry s a)) out takes some = cc
+whole_write (Some ReadCapacity) out takes some = cc
+whole_write (Some (ReadBlocks l k)) out takes some = cc
+whole_write (Some (Write l k)) out takes some = refl
+whole_write (Some SynchronizeCache) out takes some = cc
+whole_write (Some (LongCapacity b a)) out takes some = cc
+
+pub lays_direct : (id : ℕ) (q : DiskRequest) (p ws : List ℕ) (n : ℕ) → IsPageAsk q → (bytes_of_ask q == 0) ≡ false → p ≡ direct_packet id (bytes_of_ask q) (ask_of q) → ws ≡ words_of q.out → n ≡ words_for (bytes_of_ask q) → (i : Item) → Lays p ws n i → said_item i ≡ page_ask id q
+lays_direct id q p ws n can some is data_is many i lays =
+    let built = ask_some id q some in
+    said_ask id q i (fits_from q (fits_can q can)) (lays.packet_is ∙ is ∙ sym (ap (λ (x : Item). x.packet) built)) (lays.long ∙ many)
+    (λ _ takes.
+    let all = whole_write (command_of q.cdb) q.out takes some in
+    let len : length ws ≡ words_for (length q.out) = ap length data_is ∙ length-words_from (words_for (length q.out)) q.out in
+    sym (take_all (length ws) i.words (omega (arith, lays.long, many, all, len))) ∙ lays.words_are ∙ data_is)
+
+pub lays_sent : (id : ℕ) (q : DiskRequest) (p ws : List ℕ) (n : ℕ) → IsPageAsk q → (bytes_of_ask q == 0) ≡ true → p ≡ sent_packet id (ask_of q) [] → n ≡ 0 → (i : Item) → Lays p ws n i → said_item i ≡ page_ask id q
+lays_sent id q p ws n can none is bare i lays =
+    said_ask id q i (fits_from q (fits_can q can)) (lays.packet_is ∙ is ∙ sym (ap (λ (x : Item). x.packet) (ask_none id q none))) (grind (arith, nat_tests, lays.long, bare, none)) (λ some _. cc)
+
+-- how many words a request lends
+pub direct_words : (id n : ℕ) (v : Vstor) (p : List ℕ) → p ≡ direct_packet id n v → id ≤ 64 → 1 ≤ n → n ≤ 4096 → words_lent p ≡ words_for n
+direct_words id n v p is most some few = ap words_lent is ∙ ap lent_len (direct_lends_any id n v most some few)
+
+pub sent_words : (id : ℕ) (q : DiskRequest) (p : List ℕ) → IsPageAsk q → p ≡ sent_packet id (ask_of q) [] → words_lent p ≡ 0
+sent_words id q p can is = ap words_lent is ∙ ap lent_len (sent_lends id (ask_of q) (ask_formed q (fits_from q (fits_can q can))) (λ e. absurd (omega (arith, e))))
+
+pub start_words : (id k : ℕ) → words_lent (disk_start id k) ≡ 0
+start_words id k = ap lent_len (start_lends id k)
+
+-- a request of the start-up without page words is answered as it is
+start_so : (v : Vstor) (lacks : Bool) (ws : List ℕ) → ws ≡ [] → v.operation ≢ 3 → page_fixed_vstor v lacks (bytes_in ws) ≡ answer_of v
+unfolding page_fixed_vstor
+start_so v lacks ws none other =
+    let test : (v.operation == 3) ≡ false = grind (arith, nat_tests, other) in
+    rw (test, none) refl
+
+pub start_answered_so : (i : Item) → i.words ≡ [] → (vstor_of i.packet).operation ≢ 3 → page_fixed i ≡ item_of (done_packet (id_of i.packet) (answer_of (vstor_of i.packet)) []) []
+unfolding page_fixed
+start_answered_so i none other = ap (λ w. item_of (done_packet (id_of i.packet) w []) []) (start_so (vstor_of i.packet) (lacks_page i) i.words none other)
