@@ -28,9 +28,9 @@ use Rattle.control_model.specs.Guest.{GuestSeen, can_begin, idle, guest_begins}
 use Rattle.control_model.specs.Host.{HostSeen, host_can_begin, next_end, rescinded_among, without_its, host_begins}
 use Rattle.control_model.specs.Stand.{EndsAt, offered_before, offered_by, marked, guest_is, host_is, guest_before, host_before, Stand, Agreed, Meet, handles, vps_before}
 use Rattle.control_model.specs.GuestAt.{guest_from, host_from, end_to_say, end_to_hear, to_say, to_hear, GuestStands}
-use Rattle.control_model.specs.GuestAt.GuestStands.{fresh, proposes, asks, contacted, offers, dials, lists, opens, moves, started, closes, gives_back, gives_sub_back, ended, leaves, is_over}
+use Rattle.control_model.specs.GuestAt.GuestStands.{fresh, proposes, asks, contacted, offers, dials, lists, opens, fills, moves, started, empties, closes, gives_back, gives_sub_back, ended, leaves, is_over}
 use Rattle.control_model.specs.HostAt.{host_end_to_say, host_end_to_hear, host_to_say, host_to_hear, live_ones, lists_but, HostStands}
-use Rattle.control_model.specs.HostAt.HostStands.{fresh as IsFresh, answers as IsAnswering, accepts as IsAccepting, contacted as IsContacted, connects as IsConnecting, lists as IsListing, listed as IsListed, moves as IsMoving, started as IsStarted, closes as IsClosing, tears as IsTearing, takes_back as IsTakingBack, ended as IsEnded, leaves as IsLeaving, is_over as IsDone}
+use Rattle.control_model.specs.HostAt.HostStands.{fresh as IsFresh, answers as IsAnswering, accepts as IsAccepting, contacted as IsContacted, connects as IsConnecting, lists as IsListing, listed as IsListed, fills as IsFilling, moves as IsMoving, started as IsStarted, empties as IsEmptying, closes as IsClosing, tears as IsTearing, takes_back as IsTakingBack, ended as IsEnded, leaves as IsLeaving, is_over as IsDone}
 use Rattle.control_laws.proofs.NextOne.{guest_next_awaits, guest_next_stands, guest_next_sends, host_next_awaits, host_next_stands, host_next_done, host_next_sends}
 use Rattle.control_laws.proofs.Logs.{Logs, a_guest, a_host}
 use Rattle.control_laws.proofs.Marks.{by_test, marked_here, stand_like}
@@ -232,10 +232,12 @@ guest_begins_so plan logs before awaits version channels part planned (offers v 
 guest_begins_so plan logs before awaits version channels part planned (dials v cs phase place done o left at asked meet) can is = absurd (cc)
 guest_begins_so plan logs before awaits version channels part planned (lists v cs phase place done o left at meet) can is = absurd (cc)
 guest_begins_so plan logs before awaits version channels part planned (opens v cs phase place done o left at meet) can is = absurd (cc)
+guest_begins_so plan logs before awaits version channels part planned (fills v cs phase place done o left k at has meet) can is = absurd (cc)
 guest_begins_so plan logs before awaits version channels part planned (moves v cs phase place done o left in_plan ms at answers meet) can is = absurd (cc)
 guest_begins_so plan logs before awaits version channels part planned (started v cs phase in_plan meet) can is =
     let same_part : PhaseEnd phase ≡ part = cc in
     subst (GuestBegun plan (a_guest plan logs (Some (PhaseStart phase)) Nothing (Some v) cs)) same_part (guest_end plan logs v cs phase planned in_plan meet)
+guest_begins_so plan logs before awaits version channels part planned (empties v cs phase place done o left k at closed has meet) can is = absurd (cc)
 guest_begins_so plan logs before awaits version channels part planned (closes v cs phase place done o left at closed meet) can is = absurd (cc)
 guest_begins_so plan logs before awaits version channels part planned (gives_back v cs phase place done o left at gone meet) can is = absurd (cc)
 guest_begins_so plan logs before awaits version channels part planned (gives_sub_back v cs phase place done o left at closed sub meet) can is = absurd (cc)
@@ -272,11 +274,13 @@ host_begins_so plan logs before awaits version channels assembly tried pieces pa
 host_begins_so plan logs before awaits version channels assembly tried pieces part planned (IsConnecting v cs phase place done o left at asked meet) can is = absurd (cc)
 host_begins_so plan logs before awaits version channels assembly tried pieces part planned (IsListing v cs phase place done o left s m ms at meet list) can is = absurd (cc)
 host_begins_so plan logs before awaits version channels assembly tried pieces part planned (IsListed v cs phase place done o left at meet) can is = absurd (cc)
+host_begins_so plan logs before awaits version channels assembly tried pieces part planned (IsFilling v cs phase place done o left k s m ms at has meet list) can is = absurd (cc)
 host_begins_so plan logs before awaits version channels assembly tried pieces part planned (IsMoving v cs phase place done o left in_plan ms at meet) can is = absurd (cc)
 host_begins_so plan logs before awaits version channels assembly tried pieces part planned (IsStarted v cs phase in_plan meet) can is =
     let h : HostSeen = a_host plan logs (Some (PhaseStart phase)) HostNothing (Some v) cs (live_ones (handles (phase_of plan phase))) in
     let same_part : PhaseEnd phase ≡ part = cc in
     so plan h part (subst (HostBegun plan h) same_part (host_end plan logs v cs phase planned in_plan meet))
+host_begins_so plan logs before awaits version channels assembly tried pieces part planned (IsEmptying v cs phase place done o left k at closed has meet) can is = absurd (cc)
 host_begins_so plan logs before awaits version channels assembly tried pieces part planned (IsClosing v cs phase place done o left at closed meet) can is = absurd (cc)
 host_begins_so plan logs before awaits version channels assembly tried pieces part planned (IsTearing v cs phase place done o left at closed meet) can is = absurd (cc)
 host_begins_so plan logs before awaits version channels assembly tried pieces part planned (IsTakingBack v cs phase place done o left at gone meet) can is = absurd (cc)

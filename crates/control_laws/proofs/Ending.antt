@@ -22,9 +22,9 @@ use Rattle.control_model.specs.Host.{offered_life, host_waits_for_nothing}
 use Rattle.control_model.specs.Said.{channel_count, ends_given_back, said_by_guest, said_by_host, last_state, at_end}
 use Rattle.control_model.specs.Stand.{marked, vps_before, before_phase, end_state, guest_ends, host_ends, Stand, Agreed}
 use Rattle.control_model.specs.GuestAt.{to_say, to_hear, GuestStands}
-use Rattle.control_model.specs.GuestAt.GuestStands.{fresh, proposes, asks, contacted, offers, dials, lists, opens, moves, started, closes, gives_back, gives_sub_back, ended, leaves, is_over}
+use Rattle.control_model.specs.GuestAt.GuestStands.{fresh, proposes, asks, contacted, offers, dials, lists, opens, fills, moves, started, empties, closes, gives_back, gives_sub_back, ended, leaves, is_over}
 use Rattle.control_model.specs.HostAt.{host_to_say, host_to_hear, HostStands}
-use Rattle.control_model.specs.HostAt.HostStands.{fresh as IsFresh, answers as IsAnswering, accepts as IsAccepting, contacted as IsContacted, connects as IsConnecting, lists as IsListing, listed as IsListed, moves as IsMoving, started as IsStarted, closes as IsClosing, tears as IsTearing, takes_back as IsTakingBack, ended as IsEnded, leaves as IsLeaving, is_over as IsDone}
+use Rattle.control_model.specs.HostAt.HostStands.{fresh as IsFresh, answers as IsAnswering, accepts as IsAccepting, contacted as IsContacted, connects as IsConnecting, lists as IsListing, listed as IsListed, fills as IsFilling, moves as IsMoving, started as IsStarted, empties as IsEmptying, closes as IsClosing, tears as IsTearing, takes_back as IsTakingBack, ended as IsEnded, leaves as IsLeaving, is_over as IsDone}
 use Rattle.control_laws.specs.Over.{vps_at_end}
 use Rattle.control_laws.specs.Sides.{BothOver}
 use Rattle.control_laws.proofs.Marks.{by_test, differ}
@@ -155,8 +155,10 @@ guest_ended plan part awaits version channels planned (offers v cs phase place d
 guest_ended plan part awaits version channels planned (dials v cs phase place done o left at asked meet) last over = absurd (cc)
 guest_ended plan part awaits version channels planned (lists v cs phase place done o left at meet) last over = absurd (cc)
 guest_ended plan part awaits version channels planned (opens v cs phase place done o left at meet) last over = absurd (cc)
+guest_ended plan part awaits version channels planned (fills v cs phase place done o left k at has meet) last over = absurd (cc)
 guest_ended plan part awaits version channels planned (moves v cs phase place done o left in_plan is at answers meet) last over = absurd (cc)
 guest_ended plan part awaits version channels planned (started v cs phase in_plan meet) last over = absurd (cc)
+guest_ended plan part awaits version channels planned (empties v cs phase place done o left k at closed has meet) last over = absurd (cc)
 guest_ended plan part awaits version channels planned (closes v cs phase place done o left at closed meet) last over = absurd (cc)
 guest_ended plan part awaits version channels planned (gives_back v cs phase place done o left at gone meet) last over = absurd (cc)
 guest_ended plan part awaits version channels planned (gives_sub_back v cs phase place done o left at closed sub meet) last over = absurd (cc)
@@ -186,8 +188,10 @@ host_ended plan part awaits version channels assembly tried pieces planned (IsCo
 host_ended plan part awaits version channels assembly tried pieces planned (IsConnecting v cs phase place done o left at asked meet) last over = absurd (cc)
 host_ended plan part awaits version channels assembly tried pieces planned (IsListing v cs phase place done o left s m ms at meet list) last over = absurd (cc)
 host_ended plan part awaits version channels assembly tried pieces planned (IsListed v cs phase place done o left at meet) last over = absurd (cc)
+host_ended plan part awaits version channels assembly tried pieces planned (IsFilling v cs phase place done o left k s m ms at has meet list) last over = absurd (cc)
 host_ended plan part awaits version channels assembly tried pieces planned (IsMoving v cs phase place done o left in_plan is at meet) last over = absurd (cc)
 host_ended plan part awaits version channels assembly tried pieces planned (IsStarted v cs phase in_plan meet) last over = absurd (cc)
+host_ended plan part awaits version channels assembly tried pieces planned (IsEmptying v cs phase place done o left k at closed has meet) last over = absurd (cc)
 host_ended plan part awaits version channels assembly tried pieces planned (IsClosing v cs phase place done o left at closed meet) last over = absurd (cc)
 host_ended plan part awaits version channels assembly tried pieces planned (IsTearing v cs phase place done o left at closed meet) last over = absurd (cc)
 host_ended plan part awaits version channels assembly tried pieces planned (IsTakingBack v cs phase place done o left at gone meet) last over = absurd (cc)

@@ -20,37 +20,39 @@ use Rattle.chan_state.specs.declared.state.State.TheVariants.{Opening as IsOpeni
 use Rattle.chan_state.specs.declared.event.Event.TheVariants.{WantOpen}
 use Rattle.vmbus_msg.specs.declared.msg.Msg.{Msg}
 use Rattle.control_model.specs.declared.opening.Opening.{Opening}
+use Rattle.control_model.specs.declared.buffer.Buffer.{Buffer}
+use Rattle.control_model.specs.declared.buffer.Buffer.TheVariants.{Receive, Send}
 use Rattle.control_model.specs.declared.channel.Channel.{Channel}
 use Rattle.control_model.specs.declared.change.Change.{Change}
-use Rattle.control_model.specs.declared.change.Change.TheVariants.{Offered, Now}
+use Rattle.control_model.specs.declared.change.Change.TheVariants.{Same, Offered, Now}
 use Rattle.control_model.specs.declared.burst.Burst.TheVariants.{One}
 use Rattle.control_model.specs.declared.guest_wait.GuestWait.{GuestWait}
-use Rattle.control_model.specs.declared.guest_wait.GuestWait.TheVariants.{Nothing, Response, Offers, SubOffer, ServiceOffer, Created, Opened as AwaitsOpened, Modified, Torn, Rescinded, Unloaded}
+use Rattle.control_model.specs.declared.guest_wait.GuestWait.TheVariants.{Nothing, Response, Offers, SubOffer, ServiceOffer, Created, Opened as AwaitsOpened, Listed, Modified, Unlisted, Torn, Rescinded, Unloaded}
 use Rattle.control_model.specs.declared.guest_turn.GuestTurn.{GuestTurn}
-use Rattle.control_model.specs.Plan.{BusPlan, is_sub, is_of_sub, first_subs, subs_next, opening_at, closing_at, IsPlan, IsPort, HasPort, phase_of, closing_of}
+use Rattle.control_model.specs.Plan.{BusPlan, buffer_list, is_sub, is_of_sub, first_subs, subs_next, opening_at, closing_at, IsPlan, IsPort, HasPort, phase_of, closing_of}
 use Rattle.control_model.specs.Channels.{by_relid, lived, changed, is_handle, place_of_list}
-use Rattle.control_model.specs.Messages.{propose, respond, request, delivered, created, open_on, opened, modified, offer_sub, offer_service, pages_from, torndown, rescind, release, farewell_taken, Sends}
-use Rattle.control_model.specs.Guest.{GuestSeen, idle, is_service, is_service_offer, service_offered, lists as lists_turn, offered_channel, proposal, proposes, answered, device_offered, is_sub_offer, goes_behind, sub_offered, on_offer, opens, created_for, on_created, opens_next, opened_for, on_result, is_modifying, in_state, then_in, waits_answer, on_modified, torn_at, torn_then, torn_for, ended_for, on_torndown, on_rescind, lists_next, closes_next, guest_hears, waits_for_nothing}
-use Rattle.control_model.specs.Said.{agreed, answer_to, moved, guest_moves, host_moves, dial_offers, guest_opens, host_opens_all, guest_closes, host_closes, only_sub, ends_given_back}
-use Rattle.control_model.specs.GuestAt.{guest_from, host_from, lists_dialed, opens_listed, answers_list, answers_open, from_first_sub, gives_sub, gives_one, takes_one, end_to_say, end_to_hear, moves_to_say, start_to_say, to_say, to_hear, GuestStands}
-use Rattle.control_model.specs.GuestAt.GuestStands.{fresh, proposes as IsProposing, asks, contacted, offers as IsOffering, dials, lists, opens as IsOpened, moves, started, closes as IsClosing, gives_back, gives_sub_back, ended, leaves, is_over}
+use Rattle.control_model.specs.Messages.{propose, respond, request, delivered, created, open_on, opened, modified, offer_sub, offer_service, pages_from, buffer_pages, close, teardown, teardown_buffer, torndown, rescind, release, farewell_taken, Sends}
+use Rattle.control_model.specs.Guest.{GuestSeen, idle, is_service, is_service_offer, service_offered, lists as lists_turn, offered_channel, proposal, proposes, answered, device_offered, is_sub_offer, goes_behind, sub_offered, on_offer, opens, created_for, on_created, fills as fills_turn, filled_for, opens_next, opens_with, opened_for, on_result, is_modifying, in_state, then_in, waits_answer, on_modified, torn_at, torn_then, torn_for, ended_for, torn_rings, empties, empties_list, emptied_at, closes_one, on_rescind, lists_next, closes_next, guest_hears, waits_for_nothing}
+use Rattle.control_model.specs.Said.{agreed, answer_to, moved, guest_moves, host_moves, dial_offers, guest_buffer, host_buffer, host_buffers, guest_opens, host_opens_all, guest_closes, host_closes, ends_given_back}
+use Rattle.control_model.specs.GuestAt.{guest_from, host_from, lists_dialed, opens_listed, answers_list, answers_open, fills_opened, fills_listed, answers_fill, from_first_sub, empties_left, emptied_left, torn_left, gives_sub, gives_one, takes_one, end_to_say, end_to_hear, moves_to_say, start_to_say, to_say, to_hear, GuestStands}
+use Rattle.control_model.specs.GuestAt.GuestStands.{fresh, proposes as IsProposing, asks, contacted, offers as IsOffering, dials, lists, opens as IsOpened, fills as IsFilling, moves, started, empties as IsEmptying, closes as IsClosing, gives_back, gives_sub_back, ended, leaves, is_over}
 use Rattle.gpadl.proofs.Cutting.{cuts_so}
 use Rattle.control_model.proofs.KindLaws.{kind_of_class}
 use Rattle.control_model.specs.Stand.{At, EndsAt, offered_before, offered_by, offered_for, count_dialed, marked, end_state, guest_is, guest_ends, guest_before, Stand, Tries, Agreed, Meet, vps_before}
 use Rattle.control_laws.proofs.NextOne.{guest_next_awaits, guest_next_stands, guest_next_sends}
 use Rattle.control_laws.proofs.Logs.{Logs, a_guest}
-use Rattle.control_laws.proofs.Marks.{by_test, same, at_relid, marked_apart, marked_here, marked_there, stand_now, stand_add, stand_mark, stand_join, stand_at}
+use Rattle.control_laws.proofs.Marks.{by_test, same, at_relid, marked_append, marked_apart, marked_here, marked_there, stand_now, stand_add, stand_mark, stand_join, stand_at}
 use Rattle.control_laws.proofs.Closing.{Distinct, distinct_mid}
 use Rattle.control_laws.proofs.Cutting.{all_weaker, mid_all}
 use Rattle.control_laws.proofs.Counts.{count_next, done_known, unopened, service_at}
-use Rattle.control_laws.proofs.Plans.{phase_has, facts, opening_from, opening_here, offered_here, done_more, place_more, end_facts, closing_here, ends_more, ends_place}
+use Rattle.control_laws.proofs.Plans.{phase_has, facts, opening_from, opening_here, offered_here, done_more, place_more, end_facts, closing_here, ends_more, ends_place, none_first, none_behind}
 use Rattle.control_laws.proofs.Lower.{lower_one}
 use Rattle.control_laws.proofs.Offering.{kind_same, one_more, all_alike}
 use Rattle.control_laws.proofs.Handles.{all_front, can_open, find_list, closing_handle}
 use Rattle.control_laws.proofs.Next.{Turned, heard_so}
 use Rattle.control_laws.proofs.Vps.{vp_known, moved_all, moved_distinct, movers_are, answers_are, own_marked, host_rest}
 use Rattle.control_laws.proofs.Moving.{Known, phase_known, guest_opened, then_now, next_list, answers_left}
-use Rattle.control_laws.proofs.NextEnd.{NextIs, next_is, heard_with, GuestEnds, guest_goes, guest_stands_so, guest_next}
+use Rattle.control_laws.proofs.NextEnd.{NextIs, next_is, heard_with, GuestEnds, guest_open, guest_goes, guest_stands_so, guest_next}
 use Rattle.control_laws.proofs.Tried.{one_tried, next_tried, first_tried}
 use Rattle.control_laws.proofs.Saying.{lists_more, answers_more, drop_all, left_at, left_behind, ends_left, ends_said, ends_heard}
 use Rattle.control_laws.proofs.Seats.{AreSubs, all_snoc, first_run, no_first, no_subs_next, sub_at}
@@ -230,9 +232,8 @@ step_listed plan logs v guests phase place done o left planned at meet =
       goes = IsOpened v (slice_set guests (o.relid - 1) now) phase place done o left at (record { agreed = meet.agreed; stand = after });
       says = λ sent e.
           let asks = sym e in
-          let behind = sym (left_behind plan phase place done o left at) in
           let later : List Msg = guest_moves plan (phase_of plan phase) ++ (flat_map guest_closes (closing_of plan phase) ++ guest_from plan (suc phase)) in
-          ap (λ os. opens_listed os ++ later) here ∙ (λ i. asks i ++ (flat_map guest_opens (behind i) ++ later));
+          ap (λ os. opens_listed os ++ later) here ∙ ap (λ os. open_on o ∷ (fills_opened os ++ later)) (sym here) ∙ ap (λ xs. xs ++ (fills_opened (drop place (phase_of plan phase)) ++ later)) asks;
       heard =
           let later : List Msg = host_moves plan (phase_of plan phase) ++ (flat_map host_closes (closing_of plan phase) ++ host_from plan (suc phase)) in
           ap (λ os. answers_list os ++ later) here ∙ ap (λ os. m ∷ (answers_open os ++ later)) (sym here);
@@ -243,7 +244,7 @@ record IsOpen (plan : BusPlan) (v : Version) (guests : List Channel) (phase plac
   known : by_relid guests o.relid ≡ Some (guest_is (vps_before plan phase) IsOpening o)
   stand : Stand (slice_set guests (o.relid - 1) (guest_is (vps_before plan phase) Opened o)) (offered_for plan phase done o left) (marked (guest_is (vps_before plan phase) Opened) (done ++ o ∷ []) (guest_before (vps_before plan phase) plan phase))
   next : opening_at plan phase (place + 1) ≡ slice_get left 0
-  answers : (later : List Msg) → answers_open (drop place (phase_of plan phase)) ++ later ≡ opened o.relid o.relid ∷ ((map offer_sub (subs_next (o ∷ left)) ++ host_opens_all left) ++ later)
+  answers : (later : List Msg) → answers_open (drop place (phase_of plan phase)) ++ later ≡ opened o.relid o.relid ∷ ((host_buffers o ++ (map offer_sub (subs_next (o ∷ left)) ++ host_opens_all left)) ++ later)
 
 is_open : (plan : BusPlan) (v : Version) (guests : List Channel) (phase place : ℕ) (done : List Opening) (o : Opening) (left : List Opening) → IsPlan plan
     → At plan phase place done o left → Meet plan v guests (offered_for plan phase done o left) (marked (guest_is (vps_before plan phase) Opened) done (marked (guest_is (vps_before plan phase) IsOpening) (o ∷ []) (guest_before (vps_before plan phase) plan phase))) → IsOpen plan v guests phase place done o left
@@ -262,8 +263,8 @@ is_open plan v guests phase place done o left planned at meet =
 -- the guest goes on with the next opening
 step_open_one : (plan : BusPlan) (logs : Logs) (v : Version) (guests : List Channel) (phase place : ℕ) (done : List Opening) (o : Opening) (left : List Opening) → IsPlan plan
     → At plan phase place done o left → Meet plan v guests (offered_for plan phase done o left) (marked (guest_is (vps_before plan phase) Opened) done (marked (guest_is (vps_before plan phase) IsOpening) (o ∷ []) (guest_before (vps_before plan phase) plan phase)))
-    → (not (is_sub o) && is_of_sub (opening_at plan phase (place + 1))) ≡ false → GuestStep plan (a_guest plan logs (Some (PhaseStart phase)) (AwaitsOpened place) (Some v) guests) (opened o.relid o.relid)
-step_open_one plan logs v guests phase place done o left planned at meet none =
+    → o.buffers ≡ false → (not (is_sub o) && is_of_sub (opening_at plan phase (place + 1))) ≡ false → GuestStep plan (a_guest plan logs (Some (PhaseStart phase)) (AwaitsOpened place) (Some v) guests) (opened o.relid o.relid)
+step_open_one plan logs v guests phase place done o left planned at meet bare none =
     let g : GuestSeen = a_guest plan logs (Some (PhaseStart phase)) (AwaitsOpened place) (Some v) guests in
     let fact = facts plan phase place done o left planned at in
     let m : Msg = opened o.relid o.relid in
@@ -271,7 +272,8 @@ step_open_one plan logs v guests phase place done o left planned at meet none =
     let now : Channel = guest_is (vps_before plan phase) Opened o in
     let heard : GuestTurn = heard_so (AwaitsOpened place) v (Now o.relid now) in
     let turn : GuestTurn = lists_next g (Some (PhaseStart phase)) heard (place + 1) (opening_at plan phase (place + 1)) in
-    let asked : opened_for g heard place o.relid 0 (Some o) ≡ opens_next g heard place o (opening_at plan phase (place + 1)) = rw (same o.relid) refl in
+    let sent_on : opened_for g heard place o.relid 0 (Some o) ≡ opens_with g heard place o o.buffers = rw (same o.relid) refl in
+    let asked : opened_for g heard place o.relid 0 (Some o) ≡ opens_next g heard place o (opening_at plan phase (place + 1)) = sent_on ∙ ap (opens_with g heard place o) bare in
     let on : opens_next g heard place o (opening_at plan phase (place + 1)) ≡ turn = ap (λ b. if b then record heard { awaits = SubOffer (place + 1) } else turn) none in
     let no_subs = no_subs_next o left (sym (ap (λ x. not (is_sub o) && is_of_sub x) opened_so.next) ∙ none) in
     let more = count_next plan phase done o left fact.fits.alone in
@@ -286,19 +288,20 @@ step_open_one plan logs v guests phase place done o left planned at meet none =
       goes = onward.goes;
       says = λ sent sends.
           let later : List Msg = flat_map guest_closes (closing_of plan phase) ++ guest_from plan (suc phase) in
-          ap (λ os. flat_map guest_opens os ++ (guest_moves plan (phase_of plan phase) ++ later)) (left_behind plan phase place done o left at) ∙ onward.says sent later sends;
+          ap (λ os. fills_opened os ++ (guest_moves plan (phase_of plan phase) ++ later)) (left_at plan phase place done (o ∷ left) at.phase_is at.place_is) ∙ ap (λ b. ((if b then guest_buffer o Receive ++ guest_buffer o Send else []) ++ flat_map guest_opens left) ++ (guest_moves plan (phase_of plan phase) ++ later)) bare ∙ onward.says sent later sends;
       heard =
           let later : List Msg = flat_map host_closes (closing_of plan phase) ++ host_from plan (suc phase) in
           let moves : List Msg = host_moves plan (phase_of plan phase) in
-          opened_so.answers (moves ++ later) ∙ ap (λ os. m ∷ ((map offer_sub os ++ host_opens_all left) ++ (moves ++ later))) no_subs ∙ ap (λ xs. m ∷ xs) (onward.heard later);
+          opened_so.answers (moves ++ later) ∙ ap (λ b. m ∷ (((if b then host_buffer o Receive ∷ host_buffer o Send ∷ [] else []) ++ (map offer_sub (subs_next (o ∷ left)) ++ host_opens_all left)) ++ (moves ++ later))) bare
+          ∙ ap (λ os. m ∷ ((map offer_sub os ++ host_opens_all left) ++ (moves ++ later))) no_subs ∙ ap (λ xs. m ∷ xs) (onward.heard later);
     }
 
 -- the offers of the device's sub-channels come before
 step_open_subs : (plan : BusPlan) (logs : Logs) (v : Version) (guests : List Channel) (phase place : ℕ) (done : List Opening) (o : Opening) (left : List Opening) → IsPlan plan
     → At plan phase place done o left → Meet plan v guests (offered_for plan phase done o left) (marked (guest_is (vps_before plan phase) Opened) done (marked (guest_is (vps_before plan phase) IsOpening) (o ∷ []) (guest_before (vps_before plan phase) plan phase)))
-    → is_sub o ≡ false → is_of_sub (slice_get left 0) ≡ true → GuestStep plan (a_guest plan logs (Some (PhaseStart phase)) (AwaitsOpened place) (Some v) guests) (opened o.relid o.relid)
-step_open_subs plan logs v guests phase place done o [] planned at meet is_first is_next = absurd (cc)
-step_open_subs plan logs v guests phase place done o (p ∷ left) planned at meet is_first is_next =
+    → o.buffers ≡ false → is_sub o ≡ false → is_of_sub (slice_get left 0) ≡ true → GuestStep plan (a_guest plan logs (Some (PhaseStart phase)) (AwaitsOpened place) (Some v) guests) (opened o.relid o.relid)
+step_open_subs plan logs v guests phase place done o [] planned at meet bare is_first is_next = absurd (cc)
+step_open_subs plan logs v guests phase place done o (p ∷ left) planned at meet bare is_first is_next =
     let g : GuestSeen = a_guest plan logs (Some (PhaseStart phase)) (AwaitsOpened place) (Some v) guests in
     let m : Msg = opened o.relid o.relid in
     let opened_so = is_open plan v guests phase place done o (p ∷ left) planned at meet in
@@ -307,7 +310,8 @@ step_open_subs plan logs v guests phase place done o (p ∷ left) planned at mee
     let turn : GuestTurn = record heard { awaits = SubOffer (place + 1) } in
     let next : opening_at plan phase (place + 1) ≡ Some p = opened_so.next in
     let one : Option Opening → GuestTurn = λ x. lists_next g (Some (PhaseStart phase)) heard (place + 1) x in
-    let asked : opened_for g heard place o.relid 0 (Some o) ≡ opens_next g heard place o (opening_at plan phase (place + 1)) = rw (same o.relid) refl in
+    let sent_on : opened_for g heard place o.relid 0 (Some o) ≡ opens_with g heard place o o.buffers = rw (same o.relid) refl in
+    let asked : opened_for g heard place o.relid 0 (Some o) ≡ opens_next g heard place o (opening_at plan phase (place + 1)) = sent_on ∙ ap (opens_with g heard place o) bare in
     let on : opens_next g heard place o (opening_at plan phase (place + 1)) ≡ turn =
     ap (opens_next g heard place o) next ∙ ap (λ b. if not b && is_sub p then turn else one (Some p)) is_first ∙ ap (λ b. if b then turn else one (Some p)) is_next in
     let there : At plan phase (place + 1) (done ++ o ∷ []) p left = record { in_plan = at.in_plan; phase_is = done_more plan phase place done o (p ∷ left) at; place_is = place_more plan phase place done o (p ∷ left) at } in
@@ -324,13 +328,15 @@ step_open_subs plan logs v guests phase place done o (p ∷ left) planned at mee
       goes = IsOffering v (slice_set guests (o.relid - 1) now) phase (place + 1) done o [] p left there is_first subs (record { agreed = meet.agreed; stand = after });
       says = λ sent e.
           let later : List Msg = guest_moves plan (phase_of plan phase) ++ (flat_map guest_closes (closing_of plan phase) ++ guest_from plan (suc phase)) in
-          ap (λ os. flat_map guest_opens os ++ later) (left_behind plan phase place done o (p ∷ left) at ∙ sym spot.from_first)
+          ap (λ os. fills_opened os ++ later) (left_at plan phase place done (o ∷ (p ∷ left)) at.phase_is at.place_is) ∙ ap (λ b. ((if b then guest_buffer o Receive ++ guest_buffer o Send else []) ++ flat_map guest_opens (p ∷ left)) ++ later) bare
+          ∙ ap (λ os. flat_map guest_opens os ++ later) (sym spot.from_first)
           ∙ ap (λ s. s ++ (flat_map guest_opens (from_first_sub (phase_of plan phase) (place + 1) (drop (place + 1) (phase_of plan phase))) ++ later)) (sym e);
       heard =
           let later : List Msg = host_moves plan (phase_of plan phase) ++ (flat_map host_closes (closing_of plan phase) ++ host_from plan (suc phase)) in
           let here = sym spot.here in
           let back = sym spot.from_first in
-          opened_so.answers later ∙ ap (λ b. m ∷ ((map offer_sub (if b then [] else first_subs (p ∷ left)) ++ host_opens_all (p ∷ left)) ++ later)) is_first
+          opened_so.answers later ∙ ap (λ b. m ∷ (((if b then host_buffer o Receive ∷ host_buffer o Send ∷ [] else []) ++ (map offer_sub (subs_next (o ∷ (p ∷ left))) ++ host_opens_all (p ∷ left))) ++ later)) bare
+          ∙ ap (λ b. m ∷ ((map offer_sub (if b then [] else first_subs (p ∷ left)) ++ host_opens_all (p ∷ left)) ++ later)) is_first
           ∙ (λ i. m ∷ ((map offer_sub (first_subs (here i)) ++ host_opens_all (back i)) ++ later));
     }
 
@@ -338,14 +344,148 @@ and_both : (a b : Bool) → (not a && b) ≡ true → (a ≡ false) × (b ≡ tr
 and_both true b e = absurd (cc)
 and_both false b e = (refl, e)
 
+-- the page lists of its buffers are sent, where it has some
+step_open_fills : (plan : BusPlan) (logs : Logs) (v : Version) (guests : List Channel) (phase place : ℕ) (done : List Opening) (o : Opening) (left : List Opening) → IsPlan plan
+    → At plan phase place done o left → Meet plan v guests (offered_for plan phase done o left) (marked (guest_is (vps_before plan phase) Opened) done (marked (guest_is (vps_before plan phase) IsOpening) (o ∷ []) (guest_before (vps_before plan phase) plan phase)))
+    → o.buffers ≡ true → GuestStep plan (a_guest plan logs (Some (PhaseStart phase)) (AwaitsOpened place) (Some v) guests) (opened o.relid o.relid)
+step_open_fills plan logs v guests phase place done o left planned at meet has =
+    let g : GuestSeen = a_guest plan logs (Some (PhaseStart phase)) (AwaitsOpened place) (Some v) guests in
+    let os : List Opening = phase_of plan phase in
+    let m : Msg = opened o.relid o.relid in
+    let opened_so = is_open plan v guests phase place done o left planned at meet in
+    let now : Channel = guest_is (vps_before plan phase) Opened o in
+    let heard : GuestTurn = heard_so (AwaitsOpened place) v (Now o.relid now) in
+    let turn : GuestTurn = fills_turn heard place o Receive in
+    let sent_on : opened_for g heard place o.relid 0 (Some o) ≡ opens_with g heard place o o.buffers = rw (same o.relid) refl in
+    let here = left_at plan phase place done (o ∷ left) at.phase_is at.place_is in
+    let back = sym here in
+    record {
+      turn = turn;
+      hears = ap (on_result g o.relid 0) opened_so.known ∙ ap (λ x. Ok (opened_for g heard place o.relid 0 x)) (opening_here plan phase place done o left at) ∙ ap (λ t. Ok t) (sent_on ∙ ap (opens_with g heard place o) has);
+      goes = IsFilling v (slice_set guests (o.relid - 1) now) phase place done o left Receive at has (record { agreed = meet.agreed; stand = opened_so.stand });
+      says = λ sent sends.
+          let later : List Msg = guest_moves plan os ++ (flat_map guest_closes (closing_of plan phase) ++ guest_from plan (suc phase)) in
+          let opens : List Msg = flat_map guest_opens left in
+          let first : List Msg = guest_buffer o Receive in
+          let second : List Msg = guest_buffer o Send in
+          let whole : first ≡ sent = sym (cuts_so o.relid (buffer_list o Receive) (buffer_pages o Receive) sent sends) in
+          ap (λ xs. fills_opened xs ++ later) here ∙ ap (λ b. ((if b then first ++ second else []) ++ opens) ++ later) has
+          ∙ append_assoc (first ++ second) opens later ∙ append_assoc first second (opens ++ later) ∙ ap (λ xs. first ++ xs) (sym (append_assoc second opens later))
+          ∙ (λ i. whole i ++ (fills_listed Receive (back i) ++ later));
+      heard =
+          let later : List Msg = host_moves plan os ++ (flat_map host_closes (closing_of plan phase) ++ host_from plan (suc phase)) in
+          opened_so.answers later ∙ ap (λ b. m ∷ (((if b then host_buffer o Receive ∷ host_buffer o Send ∷ [] else []) ++ (map offer_sub (subs_next (o ∷ left)) ++ host_opens_all left)) ++ later)) has
+          ∙ ap (λ xs. m ∷ (answers_fill Receive xs ++ later)) back;
+    }
+
+step_open_bare : (plan : BusPlan) (logs : Logs) (v : Version) (guests : List Channel) (phase place : ℕ) (done : List Opening) (o : Opening) (left : List Opening) → IsPlan plan
+    → At plan phase place done o left → Meet plan v guests (offered_for plan phase done o left) (marked (guest_is (vps_before plan phase) Opened) done (marked (guest_is (vps_before plan phase) IsOpening) (o ∷ []) (guest_before (vps_before plan phase) plan phase)))
+    → o.buffers ≡ false → GuestStep plan (a_guest plan logs (Some (PhaseStart phase)) (AwaitsOpened place) (Some v) guests) (opened o.relid o.relid)
+step_open_bare plan logs v guests phase place done o left planned at meet bare =
+    let next : opening_at plan phase (place + 1) ≡ slice_get left 0 = opening_from plan phase (place + 1) (done ++ o ∷ []) left (done_more plan phase place done o left at) (place_more plan phase place done o left at) in
+    by_test {P = GuestStep plan (a_guest plan logs (Some (PhaseStart phase)) (AwaitsOpened place) (Some v) guests) (opened o.relid o.relid)} (not (is_sub o) && is_of_sub (opening_at plan phase (place + 1)))
+    (λ e. let both = and_both (is_sub o) (is_of_sub (opening_at plan phase (place + 1))) e in step_open_subs plan logs v guests phase place done o left planned at meet bare both.0 (sym (ap is_of_sub next) ∙ both.1))
+    (λ e. step_open_one plan logs v guests phase place done o left planned at meet bare e)
+
 pub step_open : (plan : BusPlan) (logs : Logs) (v : Version) (guests : List Channel) (phase place : ℕ) (done : List Opening) (o : Opening) (left : List Opening) → IsPlan plan
     → At plan phase place done o left → Meet plan v guests (offered_for plan phase done o left) (marked (guest_is (vps_before plan phase) Opened) done (marked (guest_is (vps_before plan phase) IsOpening) (o ∷ []) (guest_before (vps_before plan phase) plan phase)))
     → GuestStep plan (a_guest plan logs (Some (PhaseStart phase)) (AwaitsOpened place) (Some v) guests) (opened o.relid o.relid)
 step_open plan logs v guests phase place done o left planned at meet =
+    by_test {P = GuestStep plan (a_guest plan logs (Some (PhaseStart phase)) (AwaitsOpened place) (Some v) guests) (opened o.relid o.relid)} o.buffers
+    (λ e. step_open_fills plan logs v guests phase place done o left planned at meet e)
+    (λ e. step_open_bare plan logs v guests phase place done o left planned at meet e)
+
+-- GPADL_CREATED, for the page list of a buffer: behind that of the receive buffer that of the send buffer is sent
+fill_known : (plan : BusPlan) (v : Version) (guests : List Channel) (phase place : ℕ) (done : List Opening) (o : Opening) (left : List Opening) → IsPlan plan → At plan phase place done o left
+    → Meet plan v guests (offered_for plan phase done o left) (marked (guest_is (vps_before plan phase) Opened) (done ++ o ∷ []) (guest_before (vps_before plan phase) plan phase)) → by_relid guests o.relid ≡ Some (guest_is (vps_before plan phase) Opened o)
+fill_known plan v guests phase place done o left planned at meet =
+    let so : Opening → Channel = guest_is (vps_before plan phase) Opened in
+    let base : ℕ → Channel = guest_before (vps_before plan phase) plan phase in
+    let fact = facts plan phase place done o left planned at in
+    meet.stand.each o.relid fact.fits.named (offered_here plan phase place done o left planned at)
+    ∙ ap (λ c. Some c) (marked_append so done (o ∷ []) base o.relid ∙ marked_apart so done (marked so (o ∷ []) base) o.relid fact.done_apart ∙ marked_here so o [] base)
+
+step_filled_receive : (plan : BusPlan) (logs : Logs) (v : Version) (guests : List Channel) (phase place : ℕ) (done : List Opening) (o : Opening) (left : List Opening) → IsPlan plan
+    → At plan phase place done o left → o.buffers ≡ true → Meet plan v guests (offered_for plan phase done o left) (marked (guest_is (vps_before plan phase) Opened) (done ++ o ∷ []) (guest_before (vps_before plan phase) plan phase))
+    → GuestStep plan (a_guest plan logs (Some (PhaseStart phase)) (Listed place Receive) (Some v) guests) (host_buffer o Receive)
+step_filled_receive plan logs v guests phase place done o left planned at has meet =
+    let g : GuestSeen = a_guest plan logs (Some (PhaseStart phase)) (Listed place Receive) (Some v) guests in
+    let os : List Opening = phase_of plan phase in
+    let handle : ℕ = buffer_list o Receive in
+    let turn : GuestTurn = fills_turn (idle g) place o Send in
+    let known = fill_known plan v guests phase place done o left planned at meet in
+    let asked : filled_for g place Receive o.relid handle 0 (Some o) ≡ turn = rw (same o.relid, same handle) refl in
+    let here = left_at plan phase place done (o ∷ left) at.phase_is at.place_is in
+    let back = sym here in
+    record {
+      turn = turn;
+      hears = ap (on_created g o.relid handle 0) known ∙ ap (λ x. Ok (filled_for g place Receive o.relid handle 0 x)) (opening_here plan phase place done o left at) ∙ ap (λ t. Ok t) asked;
+      goes = IsFilling v guests phase place done o left Send at has meet;
+      says = λ sent sends.
+          let later : List Msg = guest_moves plan os ++ (flat_map guest_closes (closing_of plan phase) ++ guest_from plan (suc phase)) in
+          let second : List Msg = guest_buffer o Send in
+          let whole : second ≡ sent = sym (cuts_so o.relid (buffer_list o Send) (buffer_pages o Send) sent sends) in
+          ap (λ xs. fills_listed Receive xs ++ later) here ∙ append_assoc second (flat_map guest_opens left) later ∙ (λ i. whole i ++ (fills_listed Send (back i) ++ later));
+      heard =
+          let later : List Msg = host_moves plan os ++ (flat_map host_closes (closing_of plan phase) ++ host_from plan (suc phase)) in
+          ap (λ xs. answers_fill Receive xs ++ later) here ∙ ap (λ xs. host_buffer o Receive ∷ (answers_fill Send xs ++ later)) back;
+    }
+
+-- and behind that of the send buffer the guest goes on
+no_sub_first : (left : List Opening) → first_subs left ≡ [] → is_of_sub (slice_get left 0) ≡ false
+no_sub_first [] none = refl
+no_sub_first (p ∷ left) none = by_sub (is_sub p) none
+  where
+    by_sub : (b : Bool) → (if b then p ∷ first_subs left else []) ≡ [] → b ≡ false
+    by_sub true wrong = absurd (cc)
+    by_sub false e = refl
+
+and_false : (a b : Bool) → b ≡ false → (not a && b) ≡ false
+and_false true b e = refl
+and_false false b e = e
+
+step_filled_send : (plan : BusPlan) (logs : Logs) (v : Version) (guests : List Channel) (phase place : ℕ) (done : List Opening) (o : Opening) (left : List Opening) → IsPlan plan
+    → At plan phase place done o left → o.buffers ≡ true → Meet plan v guests (offered_for plan phase done o left) (marked (guest_is (vps_before plan phase) Opened) (done ++ o ∷ []) (guest_before (vps_before plan phase) plan phase))
+    → GuestStep plan (a_guest plan logs (Some (PhaseStart phase)) (Listed place Send) (Some v) guests) (host_buffer o Send)
+step_filled_send plan logs v guests phase place done o left planned at has meet =
+    let g : GuestSeen = a_guest plan logs (Some (PhaseStart phase)) (Listed place Send) (Some v) guests in
+    let os : List Opening = phase_of plan phase in
+    let m : Msg = host_buffer o Send in
+    let handle : ℕ = buffer_list o Send in
+    let fact = facts plan phase place done o left planned at in
+    let heard : GuestTurn = heard_so (Listed place Send) v Same in
+    let turn : GuestTurn = lists_next g (Some (PhaseStart phase)) heard (place + 1) (opening_at plan phase (place + 1)) in
+    let known = fill_known plan v guests phase place done o left planned at meet in
+    let asked : filled_for g place Send o.relid handle 0 (Some o) ≡ opens_next g heard place o (opening_at plan phase (place + 1)) = rw (same o.relid, same handle) refl in
     let next : opening_at plan phase (place + 1) ≡ slice_get left 0 = opening_from plan phase (place + 1) (done ++ o ∷ []) left (done_more plan phase place done o left at) (place_more plan phase place done o left at) in
-    by_test {P = GuestStep plan (a_guest plan logs (Some (PhaseStart phase)) (AwaitsOpened place) (Some v) guests) (opened o.relid o.relid)} (not (is_sub o) && is_of_sub (opening_at plan phase (place + 1)))
-    (λ e. let both = and_both (is_sub o) (is_of_sub (opening_at plan phase (place + 1))) e in step_open_subs plan logs v guests phase place done o left planned at meet both.0 (sym (ap is_of_sub next) ∙ both.1))
-    (λ e. step_open_one plan logs v guests phase place done o left planned at meet e)
+    let no_first_sub = ap is_of_sub next ∙ no_sub_first left (none_first plan phase place done o left planned at has) in
+    let on : opens_next g heard place o (opening_at plan phase (place + 1)) ≡ turn = ap (λ b. if b then record heard { awaits = SubOffer (place + 1) } else turn) (and_false (is_sub o) (is_of_sub (opening_at plan phase (place + 1))) no_first_sub) in
+    let no_subs = none_behind plan phase place done o left planned at has in
+    let more = count_next plan phase done o left fact.fits.alone in
+    let no_more = ap length no_subs in
+    let same_count : offered_for plan phase done o left ≡ offered_by plan phase (done ++ o ∷ []) left = omega (arith, more, no_more) in
+    let after = subst (λ n. Meet plan v guests n (marked (guest_is (vps_before plan phase) Opened) (done ++ o ∷ []) (guest_before (vps_before plan phase) plan phase))) same_count meet in
+    let onward = next_list plan logs (Some (PhaseStart phase)) v guests phase (place + 1) (done ++ o ∷ []) left (Listed place Send) (Listed place Send) Same planned at.in_plan (done_more plan phase place done o left at) (place_more plan phase place done o left at) after
+    (λ none relid some. refl) in
+    let here = left_at plan phase place done (o ∷ left) at.phase_is at.place_is in
+    record {
+      turn = turn;
+      hears = ap (on_created g o.relid handle 0) known ∙ ap (λ x. Ok (filled_for g place Send o.relid handle 0 x)) (opening_here plan phase place done o left at) ∙ ap (λ t. Ok t) (asked ∙ on);
+      goes = onward.goes;
+      says = λ sent sends.
+          let later : List Msg = flat_map guest_closes (closing_of plan phase) ++ guest_from plan (suc phase) in
+          ap (λ xs. fills_listed Send xs ++ (guest_moves plan os ++ later)) here ∙ onward.says sent later sends;
+      heard =
+          let later : List Msg = flat_map host_closes (closing_of plan phase) ++ host_from plan (suc phase) in
+          let moves : List Msg = host_moves plan os in
+          ap (λ xs. answers_fill Send xs ++ (moves ++ later)) here ∙ ap (λ ps. m ∷ ((map offer_sub ps ++ host_opens_all left) ++ (moves ++ later))) no_subs ∙ ap (λ xs. m ∷ xs) (onward.heard later);
+    }
+
+step_filled : (plan : BusPlan) (logs : Logs) (v : Version) (guests : List Channel) (phase place : ℕ) (done : List Opening) (o : Opening) (left : List Opening) (k : Buffer) → IsPlan plan
+    → At plan phase place done o left → o.buffers ≡ true → Meet plan v guests (offered_for plan phase done o left) (marked (guest_is (vps_before plan phase) Opened) (done ++ o ∷ []) (guest_before (vps_before plan phase) plan phase))
+    → GuestStep plan (a_guest plan logs (Some (PhaseStart phase)) (Listed place k) (Some v) guests) (host_buffer o k)
+step_filled plan logs v guests phase place done o left Receive planned at has meet = step_filled_receive plan logs v guests phase place done o left planned at has meet
+step_filled plan logs v guests phase place done o left Send planned at has meet = step_filled_send plan logs v guests phase place done o left planned at has meet
 
 -- OFFERCHANNEL of a sub-channel: the channel is offered
 record IsOffered (plan : BusPlan) (logs : Logs) (v : Version) (guests : List Channel) (phase place : ℕ) (done : List Opening) (first : Opening) (offered : List Opening) (o : Opening) (left : List Opening) : Type 0 where
@@ -556,6 +696,61 @@ goes_so plan v guests phase place done o left waits first planned at stand next 
       heard = ends_heard plan phase (place + 1) (done ++ o ∷ []) left more behind ∙ ap (end_to_hear os) (sym ends.awaits);
     }
 
+-- GPADL_TORNDOWN, for the page list of a buffer: behind that of the send buffer that of the receive buffer is torn down, and behind both the channel is closed
+step_emptied : (plan : BusPlan) (logs : Logs) (v : Version) (guests : List Channel) (phase place : ℕ) (done : List Opening) (o : Opening) (left : List Opening) (k : Buffer) → IsPlan plan
+    → EndsAt plan phase place done o left → o.rescinded ≡ false → o.buffers ≡ true
+    → Meet plan v guests (offered_before plan (suc phase)) (marked (guest_ends (vps_before plan (suc phase))) done (marked (guest_is (vps_before plan (suc phase)) Opened) (o ∷ left) (guest_before (vps_before plan (suc phase)) plan phase)))
+    → GuestStep plan (a_guest plan logs (Some (PhaseEnd phase)) (Unlisted place k) (Some v) guests) (torndown (buffer_list o k))
+step_emptied plan logs v guests phase place done o left Send planned at closed has meet =
+    let g : GuestSeen = a_guest plan logs (Some (PhaseEnd phase)) (Unlisted place Send) (Some v) guests in
+    let here_is = closing_here plan phase place done o left at in
+    let handle : ℕ = buffer_list o Send in
+    let mine : empties_list Send handle (closing_at plan phase place) ≡ true = ap (empties_list Send handle) here_is ∙ same handle in
+    let other = torn_rings g handle (place_of_list guests handle) in
+    let here = ends_left plan phase place done (o ∷ left) at.closing_is at.place_is in
+    let back = sym here in
+    record {
+      turn = empties (idle g) place o Receive;
+      hears = ap (λ b. if b then Ok (emptied_at g place Send (closing_at plan phase place)) else other) mine ∙ ap (λ x. Ok (emptied_at g place Send x)) here_is;
+      goes = IsEmptying v guests phase place done o left Receive at closed has meet;
+      says = λ sent e.
+          let later : List Msg = guest_from plan (suc phase) in
+          ap (λ os. empties_left Send os ++ later) here ∙ ap (λ os. teardown_buffer o Receive ∷ (empties_left Receive os ++ later)) back ∙ ap (λ s. s ++ (empties_left Receive (drop place (closing_of plan phase)) ++ later)) (sym e);
+      heard =
+          let later : List Msg = host_from plan (suc phase) in
+          ap (λ os. emptied_left Send os ++ later) here ∙ ap (λ os. torndown handle ∷ (emptied_left Receive os ++ later)) back;
+    }
+step_emptied plan logs v guests phase place done o left Receive planned at closed has meet =
+    let g : GuestSeen = a_guest plan logs (Some (PhaseEnd phase)) (Unlisted place Receive) (Some v) guests in
+    let fact = end_facts plan phase place done o left planned at in
+    let here_is = closing_here plan phase place done o left at in
+    let handle : ℕ = buffer_list o Receive in
+    let base : ℕ → Channel = guest_before (vps_before plan (suc phase)) plan phase in
+    let so : Opening → Channel = guest_is (vps_before plan (suc phase)) Opened in
+    let mine : empties_list Receive handle (closing_at plan phase place) ≡ true = ap (empties_list Receive handle) here_is ∙ same handle in
+    let other = torn_rings g handle (place_of_list guests handle) in
+    let known : by_relid guests o.relid ≡ Some (so o) = stand_at guests (offered_before plan (suc phase)) (guest_ends (vps_before plan (suc phase))) done o (marked so (o ∷ left) base) (so o) meet.stand fact.fits.named fact.known fact.done_apart (marked_here so o left base) in
+    let ends = guest_open plan v guests phase place done o left (Unlisted place Receive) Same None false planned at meet.stand known in
+    let turn : GuestTurn = closes_one (idle g) guests place o in
+    let stands : ℕ → Channel = marked (guest_ends (vps_before plan (suc phase))) done (marked (guest_is (vps_before plan (suc phase)) Closing) (o ∷ []) (marked so left base)) in
+    let here = ends_left plan phase place done (o ∷ left) at.closing_is at.place_is in
+    let back = sym here in
+    record {
+      turn = turn;
+      hears = ap (λ b. if b then Ok (emptied_at g place Receive (closing_at plan phase place)) else other) mine ∙ ap (λ x. Ok (emptied_at g place Receive x)) here_is;
+      goes = guest_stands_so plan phase v (Some (PhaseEnd phase)) guests turn (Torn place) stands (close o.relid ∷ teardown o ∷ []) ends
+          (IsClosing v (changed (changed guests turn.heard) turn.wished) phase place done o left at closed (record { agreed = meet.agreed; stand = ends.guest }));
+      says = λ sent sends.
+          let later : List Msg = guest_from plan (suc phase) in
+          let said = sym (ends.said sent sends) in
+          let waits = sym ends.awaits in
+          ap (λ os. empties_left Receive os ++ later) here ∙ ap (λ os. close o.relid ∷ teardown o ∷ (gives_sub os ++ later)) back ∙ (λ i. said i ++ (end_to_say (closing_of plan phase) (waits i) ++ later));
+      heard =
+          let later : List Msg = host_from plan (suc phase) in
+          let waits = sym ends.awaits in
+          ap (λ os. emptied_left Receive os ++ later) here ∙ ap (λ os. torndown handle ∷ (torn_left os ++ later)) back ∙ (λ i. torndown handle ∷ (end_to_hear (closing_of plan phase) (waits i) ++ later));
+    }
+
 -- GPADL_TORNDOWN: the channel of an opening is closed
 abbrev closed_turn : BusPlan → ℕ → Version → ℕ → Opening → GuestTurn
 closed_turn plan phase v place o = heard_with (Torn place) v (Now o.relid (guest_is (vps_before plan (suc phase)) Closed o)) None
@@ -575,7 +770,7 @@ on_torn plan logs v guests phase place done o left planned at meet =
     let found : place_of_list guests o.gpadl ≡ Some (o.relid - 1) = find_list guests (offered_before plan (suc phase)) stands o.relid o.gpadl meet.stand fact.fits.named fact.known mine (closing_handle plan (vps_before plan (suc phase)) phase done o left fact) in
     let named = fact.fits.named in
     let back : o.relid - 1 + 1 ≡ o.relid = omega (arith, named) in
-    ap (on_torndown g o.gpadl) found ∙ ap (torn_at g o.gpadl (o.relid - 1)) known ∙ ap (λ r. Ok (torn_for g (heard r) place r (closing_at plan phase place))) back
+    ap (torn_rings g o.gpadl) found ∙ ap (torn_at g o.gpadl (o.relid - 1)) known ∙ ap (λ r. Ok (torn_for g (heard r) place r (closing_at plan phase place))) back
     ∙ ap (λ x. Ok (torn_for g (heard o.relid) place o.relid x)) (closing_here plan phase place done o left at)
 
 -- a first channel is done with then
@@ -612,8 +807,7 @@ step_torn_first plan logs v guests phase place done o left planned at closed is_
           ap (λ os. gives_sub os ++ later) here ∙ ap (λ b. ((if b then release o.relid ∷ [] else []) ++ flat_map guest_closes left) ++ later) is_first ∙ on.says sent sends;
       heard =
           let later : List Msg = host_from plan (suc phase) in
-          ap (λ os. flat_map host_closes os ++ later) here ∙ ap (λ xs. xs ++ later) (flat_map-cons host_closes o left)
-          ∙ ap (λ b. ((if b then rescind o.relid ∷ [] else m ∷ only_sub o (rescind o.relid)) ++ flat_map host_closes left) ++ later) closed
+          ap (λ os. torn_left os ++ later) here
           ∙ ap (λ b. m ∷ (((if b then rescind o.relid ∷ [] else []) ++ flat_map host_closes left) ++ later)) is_first ∙ ap (λ xs. m ∷ (xs ++ later)) on.heard;
     }
 
@@ -645,8 +839,7 @@ step_torn_sub plan logs v guests phase place done o left planned at closed sub m
           ∙ ap (λ s. s ++ (gives_one (drop place (closing_of plan phase)) ++ later)) (sym e);
       heard =
           let later : List Msg = host_from plan (suc phase) in
-          ap (λ os. flat_map host_closes os ++ later) here ∙ ap (λ xs. xs ++ later) (flat_map-cons host_closes o left)
-          ∙ ap (λ b. ((if b then rescind o.relid ∷ [] else m ∷ only_sub o (rescind o.relid)) ++ flat_map host_closes left) ++ later) closed
+          ap (λ os. torn_left os ++ later) here
           ∙ ap (λ b. m ∷ (((if b then rescind o.relid ∷ [] else []) ++ flat_map host_closes left) ++ later)) sub ∙ ap (λ os. m ∷ (takes_one os ++ later)) (sym here);
     }
 
@@ -758,8 +951,10 @@ guest_step plan logs part awaits version channels planned (IsOffering v cs phase
 guest_step plan logs part awaits version channels planned (dials v cs phase place done o left at asked meet) waits = step_service plan logs v cs phase place done o left o.dialed planned at refl asked meet
 guest_step plan logs part awaits version channels planned (lists v cs phase place done o left at meet) waits = record { next = created o.relid o.gpadl; step = step_listed plan logs v cs phase place done o left planned at meet }
 guest_step plan logs part awaits version channels planned (IsOpened v cs phase place done o left at meet) waits = record { next = opened o.relid o.relid; step = step_open plan logs v cs phase place done o left planned at meet }
+guest_step plan logs part awaits version channels planned (IsFilling v cs phase place done o left k at has meet) waits = record { next = host_buffer o k; step = step_filled plan logs v cs phase place done o left k planned at has meet }
 guest_step plan logs part awaits version channels planned (moves v cs phase place done o left in_plan is at answers meet) waits = record { next = modified o.relid; step = step_modified plan logs v cs phase place done o left planned in_plan is at answers meet }
 guest_step plan logs part awaits version channels planned (started v cs phase in_plan meet) waits = absurd (cc)
+guest_step plan logs part awaits version channels planned (IsEmptying v cs phase place done o left k at closed has meet) waits = record { next = torndown (buffer_list o k); step = step_emptied plan logs v cs phase place done o left k planned at closed has meet }
 guest_step plan logs part awaits version channels planned (IsClosing v cs phase place done o left at closed meet) waits = record { next = torndown o.gpadl; step = step_torn plan logs v cs phase place done o left planned at closed meet }
 guest_step plan logs part awaits version channels planned (gives_back v cs phase place done o left at gone meet) waits = record { next = rescind o.relid; step = step_gives plan logs v cs phase place done o left planned at gone meet }
 guest_step plan logs part awaits version channels planned (gives_sub_back v cs phase place done o left at closed sub meet) waits = record { next = rescind o.relid; step = step_gives_sub plan logs v cs phase place done o left planned at closed sub meet }

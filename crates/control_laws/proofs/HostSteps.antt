@@ -1,9 +1,10 @@
 -- A host takes the next message that its guest says.
-use Rattle.std.proofs.Common.{◌≡◌, ◌≢◌, ◌∙◌, ℕ, suc, ◌+◌, ◌-◌, ◌<◌, ◌≤◌, ◌&&◌, ◌||◌, nat_le, Bool, true, false, filter, List, [], ◌∷◌, ◌++◌, length, map, drop, slice_get, slice_set, Option, Some, None, Ok, Err, if◌then◌else◌, refl, sym, ap, subst, append_assoc, length-append, arith}
+use Rattle.std.proofs.Common.{◌≡◌, ◌≢◌, ◌∙◌, ℕ, suc, ◌+◌, ◌-◌, ◌<◌, ◌≤◌, ◌&&◌, ◌||◌, nat_le, Bool, true, false, List, [], ◌∷◌, ◌++◌, length, map, drop, slice_get, slice_set, Option, Some, None, Ok, Err, if◌then◌else◌, refl, sym, ap, subst, append_assoc, length-append, arith}
 use Rattle.std.specs.Option.{option_to_list}
 use Rattle.std.specs.List.{AllByRecursion, flat_map}
 use Rattle.std.proofs.lemmas.Bool.Decides.{nat_tests}
-use Rattle.std.proofs.lemmas.List.Concat.{flat_map-cons}
+use Rattle.std.proofs.lemmas.Grind.{flat_map-append}
+use Rattle.std.proofs.lemmas.List.{append-nil}
 use Rattle.std.proofs.lemmas.List.FromFn.{length-range_with_len}
 use Rattle.std.proofs.lemmas.Slice.Eq.{bytes_eq-Decides}
 use Rattle.std.specs.Str.{bytes_eq}
@@ -17,27 +18,29 @@ use Rattle.contact.specs.declared.part.Part.TheVariants.{Contact, PhaseStart, Ph
 use Rattle.contact.specs.Classes.{offers_from}
 use Rattle.chan_state.specs.declared.state.State.TheVariants.{Opened, Closing, Closed, Rescinded as IsRescinded, Released}
 use Rattle.chan_state.specs.declared.action.Action.TheVariants.{Nothing, SendModified}
-use Rattle.chan_state.specs.declared.event.Event.TheVariants.{ModifySeen}
+use Rattle.chan_state.specs.declared.event.Event.TheVariants.{ModifySeen, TeardownSeen}
 use Rattle.chan_state.specs.declared.chan_state.ChanState.{ChanState}
 use Rattle.gpadl.specs.Assembly.{Assembly, is_live}
 use Rattle.vmbus_msg.specs.declared.msg.Msg.{Msg}
 use Rattle.control_model.specs.declared.opening.Opening.{Opening}
+use Rattle.control_model.specs.declared.buffer.Buffer.{Buffer}
+use Rattle.control_model.specs.declared.buffer.Buffer.TheVariants.{Receive, Send}
 use Rattle.control_model.specs.declared.burst.Burst.TheVariants.{Empty, One, Two, Opens}
 use Rattle.control_model.specs.declared.fault.ControlFault.TheVariants.{Gpadl}
 use Rattle.gpadl.specs.declared.fault.GpadlFault.TheVariants.{Handle}
 use Rattle.control_model.specs.declared.host_wait.HostWait.{HostWait}
-use Rattle.control_model.specs.declared.host_wait.HostWait.TheVariants.{Contact as AwaitsContact, Request, Connect as AwaitsConnect, List as AwaitsList, Open as AwaitsOpen, Modify as AwaitsModify, Close as AwaitsClose, Teardown as AwaitsTeardown, Release as AwaitsRelease, Unload as AwaitsUnload}
+use Rattle.control_model.specs.declared.host_wait.HostWait.TheVariants.{Contact as AwaitsContact, Request, Connect as AwaitsConnect, List as AwaitsList, Open as AwaitsOpen, Fill as AwaitsFill, Modify as AwaitsModify, Empty as AwaitsEmpty, Close as AwaitsClose, Teardown as AwaitsTeardown, Release as AwaitsRelease, Unload as AwaitsUnload}
 use Rattle.control_model.specs.declared.host_next.HostNext.{HostNext}
-use Rattle.control_model.specs.Plan.{BusPlan, is_sub, subs_next, subs_behind, opening_at, closing_at, IsPlan, phase_of, closing_of, movers_in, vp_for, list_pages}
-use Rattle.control_model.specs.Channels.{by_relid, stands, goes_by}
-use Rattle.control_model.specs.Messages.{propose, respond, request, delivered, connect, pages_from, open_on, opened, modify, modified, offer_sub, close, teardown, torndown, rescind, release, farewell, Sends}
-use Rattle.control_model.specs.Host.{HostSeen, HostTurn, at_rest, connects, connects_to, offers_service, on_request, offered_life, with_offers, subs_offered, with_subs, opened_then, open_by, on_open, on_close, torn_for, on_teardown, on_release, is_of, waits_list, waits_move, modify_by, moved_then, on_modify, stays, next_end, without, wants_rescind, rescinded_among, and_rescind, goes_next, on_unload, host_hears}
-use Rattle.control_model.specs.Stand.{At, EndsAt, offered_before, offered_by, offered_for, count_dialed, marked, end_state, host_is, host_ends, host_before, Stand, Tries, Agreed, Meet, handles, vps_before}
+use Rattle.control_model.specs.Plan.{BusPlan, buffer_list, buffer_begins, buffer_size, is_sub, subs_next, subs_behind, opening_at, closing_at, IsPlan, phase_of, closing_of, movers_in, vp_for, list_pages}
+use Rattle.control_model.specs.Channels.{by_relid, row_of, stands, goes_by}
+use Rattle.control_model.specs.Messages.{propose, respond, request, delivered, connect, pages_from, buffer_pages, open_on, opened, modify, modified, offer_sub, close, teardown, teardown_buffer, torndown, rescind, release, farewell, Sends}
+use Rattle.control_model.specs.Host.{HostSeen, HostTurn, at_rest, connects, connects_to, offers_service, on_request, offered_life, with_offers, subs_offered, with_subs, has_buffers_at, waits_behind, opened_then, open_by, on_open, on_close, torn_for, teardown_by, is_list_of, emptied_next, empties_one, tears_live, on_teardown, on_release, is_of, waits_list, waits_move, modify_by, moved_then, on_modify, stays, next_end, without, without_buffers, wants_rescind, rescinded_among, and_rescind, goes_next, on_unload, host_hears}
+use Rattle.control_model.specs.Stand.{At, EndsAt, offered_before, offered_by, offered_for, count_dialed, marked, end_state, host_is, host_ends, host_before, Stand, Tries, Agreed, Meet, handles_of, handles, vps_before}
 use Rattle.control_model.specs.Guest.{is_answered}
-use Rattle.control_model.specs.Said.{answer_to, dials, dial_offers, moved, guest_moves, host_moves, guest_opens, host_opens_all, host_closes, guest_closes, only_sub, ends_given_back}
-use Rattle.control_model.specs.GuestAt.{guest_from, host_from, lists_dialed, opens_listed, answers_list, answers_open, gives_one}
-use Rattle.control_model.specs.HostAt.{host_start_to_say, host_moves_to_say, tears_down, host_end_to_say, host_end_to_hear, host_to_say, host_to_hear, live_ones, lists_but, HostStands}
-use Rattle.control_model.specs.HostAt.HostStands.{answers, accepts as IsAccepting, contacted, lists, tears, takes_back, is_over}
+use Rattle.control_model.specs.Said.{answer_to, dials, dial_offers, moved, guest_moves, host_moves, guest_buffer, host_buffer, guest_opens, host_opens_all, host_closes, guest_closes, ends_given_back}
+use Rattle.control_model.specs.GuestAt.{guest_from, host_from, lists_dialed, opens_listed, answers_list, answers_open, fills_listed, answers_fill, emptied_left, torn_left, gives_one}
+use Rattle.control_model.specs.HostAt.{host_start_to_say, host_moves_to_say, tears_down, closes_left, tears_left, host_end_to_say, host_end_to_hear, host_to_say, host_to_hear, live_ones, lists_but, lists_beside, HostStands}
+use Rattle.control_model.specs.HostAt.HostStands.{answers, accepts as IsAccepting, contacted, lists, fills, empties, closes, tears, takes_back, is_over}
 use Rattle.control_laws.proofs.NextOne.{host_next_awaits, host_next_stands, host_next_done, host_next_sends}
 use Rattle.control_laws.proofs.Logs.{Logs, a_host}
 use Rattle.control_laws.proofs.Vps.{marked_alike, before_alike, host_alike, vp_known, moved_all, moved_distinct, movers_are, answers_are, own_marked, host_says, guest_rest, host_rest}
@@ -49,12 +52,12 @@ use Rattle.control_laws.proofs.Marks.{by_test, same, marked_apart, marked_like, 
 use Rattle.control_laws.proofs.Closing.{Distinct, distinct_mid}
 use Rattle.control_laws.proofs.Cutting.{all_weaker, mid_all}
 use Rattle.control_laws.proofs.Counts.{count_next, done_known, unopened}
-use Rattle.control_laws.proofs.Plans.{get_from, phase_has, facts, opening_here, offered_here, done_more, place_more, end_facts, closing_here, ends_more, ends_place}
+use Rattle.control_laws.proofs.Plans.{get_from, phase_has, facts, opening_here, offered_here, done_more, place_more, end_facts, closing_here, ends_more, ends_place, none_behind}
 use Rattle.control_laws.proofs.NextEnd.{next_is, HostEnds, host_goes, host_stands_so, host_next}
 use Rattle.control_laws.proofs.Lower.{lower_one, accepts_it, refuses_it}
 use Rattle.control_laws.proofs.Offering.{all_mapped}
 use Rattle.control_laws.proofs.Handles.{can_open_host}
-use Rattle.control_laws.proofs.Live.{keeps, let_go, let_go_again, still_live}
+use Rattle.control_laws.proofs.Live.{let_go, let_go_again, still_live, buffer_live, buffer_known, rings_known}
 
 -- a message is taken, and the host goes on
 pub record HostStep (plan : BusPlan) (h : HostSeen) (tried : List ℕ) (m : Msg) (pieces : List Msg) : Type 0 where
@@ -172,11 +175,11 @@ step_connects plan logs v hosts phase place done o left port planned at is meet 
     }
 
 -- OPENCHANNEL: behind a device's first channel its sub-channels are offered
-pub step_opens : (plan : BusPlan) (logs : Logs) (v : Version) (hosts : List ChanState) (phase place : ℕ) (done : List Opening) (o : Opening) (left : List Opening) → IsPlan plan
+step_opens_bare : (plan : BusPlan) (logs : Logs) (v : Version) (hosts : List ChanState) (phase place : ℕ) (done : List Opening) (o : Opening) (left : List Opening) → IsPlan plan
     → At plan phase place done o left → Meet plan v hosts (offered_for plan phase done o left) (marked (host_is (vps_before plan phase) Opened) done (host_before (vps_before plan phase) plan phase))
-    → HostStep plan (a_host plan logs (Some (PhaseStart phase)) (AwaitsOpen place) (Some v) hosts (live_ones (handles (done ++ o ∷ [])))) [] (open_on o) []
-step_opens plan logs v hosts phase place done o left planned at meet =
-    let h : HostSeen = a_host plan logs (Some (PhaseStart phase)) (AwaitsOpen place) (Some v) hosts (live_ones (handles (done ++ o ∷ []))) in
+    → o.buffers ≡ false → HostStep plan (a_host plan logs (Some (PhaseStart phase)) (AwaitsOpen place) (Some v) hosts (live_ones (handles done ++ o.gpadl ∷ []))) [] (open_on o) []
+step_opens_bare plan logs v hosts phase place done o left planned at meet bare =
+    let h : HostSeen = a_host plan logs (Some (PhaseStart phase)) (AwaitsOpen place) (Some v) hosts (live_ones (handles done ++ o.gpadl ∷ [])) in
     let part : Option Part = Some (PhaseStart phase) in
     let m : Msg = open_on o in
     let answer : Msg = opened o.relid o.relid in
@@ -191,10 +194,12 @@ step_opens plan logs v hosts phase place done o left planned at meet =
     let later : HostWait = waits_list h part (place + 1) (opening_at plan phase (place + 1)) in
     let here : drop place (phase_of plan phase) ≡ o ∷ left = left_at plan phase place done (o ∷ left) at.phase_is at.place_is in
     let open_now : List ChanState = slice_set hosts (o.relid - 1) now in
-    let turn : HostTurn = record (at_rest h) { awaits = later; channels = with_subs open_now subs; burst = Opens answer part place } in
+    let turn : HostTurn = record (at_rest h) { awaits = later; channels = with_subs open_now subs; lists = live_ones (handles done ++ o.gpadl ∷ []); burst = Opens answer part place } in
     let known : by_relid hosts o.relid ≡ Some life = stand_at hosts count (host_is (vps_before plan phase) Opened) done o (host_before (vps_before plan phase) plan phase) life meet.stand fact.fits.named mine_known fact.done_apart refl in
     let mine : is_of o.relid (opening_at plan phase place) ≡ true = ap (is_of o.relid) (opening_here plan phase place done o left at) ∙ same o.relid in
-    let waits : opened_then h (AwaitsOpen place) o.relid ≡ later = ap (λ b. if b then later else AwaitsOpen place) mine in
+    let buffers_at : has_buffers_at (opening_at plan phase place) ≡ false = ap has_buffers_at (opening_here plan phase place done o left at) ∙ bare in
+    let waits : opened_then h (AwaitsOpen place) o.relid ≡ later = ap (λ b. if b then waits_behind h place else AwaitsOpen place) mine ∙ ap (λ b. if b then AwaitsFill place Receive else later) buffers_at in
+    let live : handles done ++ o.gpadl ∷ [] ≡ handles (done ++ o ∷ []) = ap (λ b. handles done ++ (o.gpadl ∷ (if b then buffer_list o Receive ∷ buffer_list o Send ∷ [] else []))) (sym bare) ∙ ap (λ xs. handles done ++ xs) (sym (append-nil (handles_of o))) ∙ sym (flat_map-append handles_of done (o ∷ [])) in
     let stood : stands life Opened ≡ now = (λ i. record { side = can.side i; state = Opened; vp = vp_is i }) in
     let offers : subs_offered h (AwaitsOpen place) o.relid ≡ subs = ap (λ b. if b then subs_behind plan part place else []) mine ∙ ap subs_next here in
     let sends : with_offers h (AwaitsOpen place) o.relid answer ≡ Opens answer part place = ap (λ b. if b then Opens answer part place else One answer) mine in
@@ -206,28 +211,94 @@ step_opens plan logs v hosts phase place done o left planned at meet =
     ∙ unopened plan (host_ends (vps_before plan phase)) offered_life phase q planned (let less = at.in_plan in omega (arith, less)) (omega (arith, above)) in
     let more : Stand (with_subs open_now subs) (offered_by plan phase (done ++ o ∷ []) left) (marked (host_is (vps_before plan phase) Opened) (done ++ o ∷ []) (host_before (vps_before plan phase) plan phase)) =
     subst (λ n. Stand (with_subs open_now subs) n (marked (host_is (vps_before plan phase) Opened) (done ++ o ∷ []) (host_before (vps_before plan phase) plan phase))) (count_next plan phase done o left fact.fits.alone) (stand_add open_now count (length subs) (marked (host_is (vps_before plan phase) Opened) (done ++ o ∷ []) (host_before (vps_before plan phase) plan phase)) offered_life joined fresh) in
-    let onward = next_wait plan logs part v hosts (with_subs open_now subs) (live_ones (handles (done ++ o ∷ []))) phase (place + 1) (done ++ o ∷ []) left (AwaitsOpen place) planned at.in_plan (done_more plan phase place done o left at) (place_more plan phase place done o left at) (record { agreed = meet.agreed; stand = more }) in
+    let onward = next_wait plan logs part v hosts (with_subs open_now subs) (live_ones (handles done ++ o.gpadl ∷ [])) phase (place + 1) (done ++ o ∷ []) left (AwaitsOpen place) planned at.in_plan (done_more plan phase place done o left at) (place_more plan phase place done o left at) (record { agreed = meet.agreed; stand = more }) in
     record {
       turn = turn;
       hears = ap (on_open h o.relid o.relid) known ∙ ap (open_by h o.relid o.relid life) can.row
           ∙ (λ i. Ok (record (at_rest h) { awaits = waits i; channels = with_subs (slice_set hosts (o.relid - 1) (stood i)) (offers i); burst = sends i }));
       tried_then = [];
       pieces_then = pieces_of (opening_at plan phase (place + 1));
-      goes = onward.goes;
+      goes = subst (λ hs. HostStands plan part later (Some v) (with_subs open_now subs) (live_ones hs) [] (pieces_of (opening_at plan phase (place + 1)))) (sym live) onward.goes;
       says = λ sent e.
           let rest : List Msg = flat_map host_closes (closing_of plan phase) ++ host_from plan (suc phase) in
           let moves : List Msg = host_moves plan (phase_of plan phase) in
           let sent_is : sent ≡ answer ∷ map offer_sub subs = e ∙ ap (λ os. answer ∷ map offer_sub (subs_next os)) here in
-          ap (λ os. answers_open os ++ (moves ++ rest)) here ∙ append_assoc (answer ∷ map offer_sub subs) (host_opens_all left) (moves ++ rest) ∙ ap (λ xs. (answer ∷ map offer_sub subs) ++ xs) (onward.says rest)
+          ap (λ os. answers_open os ++ (moves ++ rest)) here ∙ ap (λ b. answer ∷ (((if b then host_buffer o Receive ∷ host_buffer o Send ∷ [] else []) ++ (map offer_sub subs ++ host_opens_all left)) ++ (moves ++ rest))) bare ∙ append_assoc (answer ∷ map offer_sub subs) (host_opens_all left) (moves ++ rest) ∙ ap (λ xs. (answer ∷ map offer_sub subs) ++ xs) (onward.says rest)
           ∙ ap (λ xs. xs ++ (host_start_to_say (phase_of plan phase) later ++ (host_moves_to_say plan (phase_of plan phase) later ++ rest))) (sym sent_is);
       heard =
           let rest : List Msg = flat_map guest_closes (closing_of plan phase) ++ guest_from plan (suc phase) in
-          ap (λ os. opens_listed os ++ (guest_moves plan (phase_of plan phase) ++ rest)) here ∙ ap (λ xs. m ∷ xs) (onward.hears rest);
+          ap (λ os. opens_listed os ++ (guest_moves plan (phase_of plan phase) ++ rest)) here ∙ ap (λ b. m ∷ (((if b then guest_buffer o Receive ++ guest_buffer o Send else []) ++ flat_map guest_opens left) ++ (guest_moves plan (phase_of plan phase) ++ rest))) bare ∙ ap (λ xs. m ∷ xs) (onward.hears rest);
     }
   where
     join_all : (P : Opening → Type 0) (done : List Opening) (o : Opening) → AllByRecursion P done → P o → AllByRecursion P (done ++ o ∷ [])
     join_all P [] o all here = (here, tt)
     join_all P (p ∷ done) o all here = (all.0, join_all P done o all.1 here)
+
+-- the page lists of its buffers come then, where it has some
+step_opens_fills : (plan : BusPlan) (logs : Logs) (v : Version) (hosts : List ChanState) (phase place : ℕ) (done : List Opening) (o : Opening) (left : List Opening) → IsPlan plan
+    → At plan phase place done o left → Meet plan v hosts (offered_for plan phase done o left) (marked (host_is (vps_before plan phase) Opened) done (host_before (vps_before plan phase) plan phase))
+    → o.buffers ≡ true → HostStep plan (a_host plan logs (Some (PhaseStart phase)) (AwaitsOpen place) (Some v) hosts (live_ones (handles done ++ o.gpadl ∷ []))) [] (open_on o) []
+step_opens_fills plan logs v hosts phase place done o left planned at meet has =
+    let h : HostSeen = a_host plan logs (Some (PhaseStart phase)) (AwaitsOpen place) (Some v) hosts (live_ones (handles done ++ o.gpadl ∷ [])) in
+    let part : Option Part = Some (PhaseStart phase) in
+    let os : List Opening = phase_of plan phase in
+    let m : Msg = open_on o in
+    let answer : Msg = opened o.relid o.relid in
+    let count : ℕ = offered_for plan phase done o left in
+    let base : ℕ → ChanState = host_before (vps_before plan phase) plan phase in
+    let so : Opening → ChanState = host_is (vps_before plan phase) Opened in
+    let fact = facts plan phase place done o left planned at in
+    let mine_known = offered_here plan phase place done o left planned at in
+    let life : ChanState = base o.relid in
+    let can = can_open_host plan (vps_before plan phase) phase o.relid fact.not_before in
+    let vp_is : life.vp ≡ vps_before plan phase o.relid = vp_known plan (λ (l : ChanState). l.vp) (host_ends (vps_before plan phase)) offered_life phase o.relid (λ p. refl) refl in
+    let now : ChanState = so o in
+    let here : drop place os ≡ o ∷ left = left_at plan phase place done (o ∷ left) at.phase_is at.place_is in
+    let back = sym here in
+    let none = none_behind plan phase place done o left planned at has in
+    let open_now : List ChanState = slice_set hosts (o.relid - 1) now in
+    let turn : HostTurn = record (at_rest h) { awaits = AwaitsFill place Receive; channels = open_now; burst = Opens answer part place } in
+    let known : by_relid hosts o.relid ≡ Some life = stand_at hosts count so done o base life meet.stand fact.fits.named mine_known fact.done_apart refl in
+    let mine : is_of o.relid (opening_at plan phase place) ≡ true = ap (is_of o.relid) (opening_here plan phase place done o left at) ∙ same o.relid in
+    let buffers_at : has_buffers_at (opening_at plan phase place) ≡ true = ap has_buffers_at (opening_here plan phase place done o left at) ∙ has in
+    let later : HostWait = waits_list h part (place + 1) (opening_at plan phase (place + 1)) in
+    let waits : opened_then h (AwaitsOpen place) o.relid ≡ AwaitsFill place Receive = ap (λ b. if b then waits_behind h place else AwaitsOpen place) mine ∙ ap (λ b. if b then AwaitsFill place Receive else later) buffers_at in
+    let stood : stands life Opened ≡ now = (λ i. record { side = can.side i; state = Opened; vp = vp_is i }) in
+    let offers : subs_offered h (AwaitsOpen place) o.relid ≡ [] = ap (λ b. if b then subs_behind plan part place else []) mine ∙ ap subs_next here ∙ none in
+    let sends : with_offers h (AwaitsOpen place) o.relid answer ≡ Opens answer part place = ap (λ b. if b then Opens answer part place else One answer) mine in
+    let joined : Stand open_now count (marked so (done ++ o ∷ []) base) = stand_join hosts count so done o base base meet.stand fact.fits.named mine_known fact.done_apart (λ q off. refl) in
+    let pages = length-range_with_len (buffer_begins o Receive) buffer_size in
+    let list : List Msg = guest_buffer o Receive in
+    let whole : HasFirst list = cut_first o.relid (buffer_list o Receive) (buffer_pages o Receive) (omega (arith, pages)) in
+    record {
+      turn = turn;
+      hears = ap (on_open h o.relid o.relid) known ∙ ap (open_by h o.relid o.relid life) can.row
+          ∙ (λ i. Ok (record (at_rest h) { awaits = waits i; channels = with_subs (slice_set hosts (o.relid - 1) (stood i)) (offers i); burst = sends i }))
+          ∙ ap (λ cs. Ok (record (at_rest h) { awaits = AwaitsFill place Receive; channels = cs; burst = Opens answer part place })) (append-nil open_now);
+      tried_then = [];
+      pieces_then = list;
+      goes = subst (HostStands plan part (AwaitsFill place Receive) (Some v) open_now (live_ones (handles done ++ o.gpadl ∷ [])) []) (sym whole.is)
+          (fills v open_now phase place done o left Receive (live_ones (handles done ++ o.gpadl ∷ [])) whole.first whole.rest at has (record { agreed = meet.agreed; stand = joined }) (record { came = []; whole = whole.is; lists_are = refl }));
+      says = λ sent e.
+          let rest : List Msg = host_moves plan os ++ (flat_map host_closes (closing_of plan phase) ++ host_from plan (suc phase)) in
+          let sent_is : answer ∷ [] ≡ sent = ap (λ ps. answer ∷ map offer_sub ps) (sym (ap subs_next here ∙ none)) ∙ sym e in
+          ap (λ xs. answers_open xs ++ rest) here ∙ ap (λ b. answer ∷ (((if b then host_buffer o Receive ∷ host_buffer o Send ∷ [] else []) ++ (map offer_sub (subs_next (o ∷ left)) ++ host_opens_all left)) ++ rest)) has
+          ∙ (λ i. sent_is i ++ (answers_fill Receive (back i) ++ rest));
+      heard =
+          let rest : List Msg = guest_moves plan os ++ (flat_map guest_closes (closing_of plan phase) ++ guest_from plan (suc phase)) in
+          let second : List Msg = guest_buffer o Send in
+          let opens : List Msg = flat_map guest_opens left in
+          ap (λ xs. opens_listed xs ++ rest) here ∙ ap (λ b. m ∷ (((if b then list ++ second else []) ++ opens) ++ rest)) has
+          ∙ ap (λ xs. m ∷ (xs ++ rest)) (append_assoc list second opens) ∙ ap (λ xs. m ∷ ((list ++ fills_listed Receive xs) ++ rest)) back;
+    }
+
+pub step_opens : (plan : BusPlan) (logs : Logs) (v : Version) (hosts : List ChanState) (phase place : ℕ) (done : List Opening) (o : Opening) (left : List Opening) → IsPlan plan
+    → At plan phase place done o left → Meet plan v hosts (offered_for plan phase done o left) (marked (host_is (vps_before plan phase) Opened) done (host_before (vps_before plan phase) plan phase))
+    → HostStep plan (a_host plan logs (Some (PhaseStart phase)) (AwaitsOpen place) (Some v) hosts (live_ones (handles done ++ o.gpadl ∷ []))) [] (open_on o) []
+step_opens plan logs v hosts phase place done o left planned at meet =
+    by_test {P = HostStep plan (a_host plan logs (Some (PhaseStart phase)) (AwaitsOpen place) (Some v) hosts (live_ones (handles done ++ o.gpadl ∷ []))) [] (open_on o) []} o.buffers
+    (λ e. step_opens_fills plan logs v hosts phase place done o left planned at meet e)
+    (λ e. step_opens_bare plan logs v hosts phase place done o left planned at meet e)
 
 -- MODIFYCHANNEL: the channel is moved, and the host waits for the next one that is
 takes_move : (h : HostSeen) (relid vp : ℕ) (life : ChanState) (answered : Bool) → modify_by h relid vp life (if answered then Some (Opened, SendModified) else Some (Opened, Nothing))
@@ -301,9 +372,9 @@ step_moves plan logs v hosts phase place done o left planned in_plan is at meet 
 pub step_closes : (plan : BusPlan) (logs : Logs) (v : Version) (hosts : List ChanState) (phase place : ℕ) (done : List Opening) (o : Opening) (left : List Opening) → IsPlan plan
     → EndsAt plan phase place done o left → o.rescinded ≡ false
     → Meet plan v hosts (offered_before plan (suc phase)) (marked (host_ends (vps_before plan (suc phase))) done (marked (host_is (vps_before plan (suc phase)) Opened) (o ∷ left) (host_before (vps_before plan (suc phase)) plan phase)))
-    → HostStep plan (a_host plan logs (Some (PhaseEnd phase)) (AwaitsClose place) (Some v) hosts (lists_but done (phase_of plan phase))) [] (close o.relid) []
+    → HostStep plan (a_host plan logs (Some (PhaseEnd phase)) (AwaitsClose place) (Some v) hosts (without_buffers (lists_but done (phase_of plan phase)) o)) [] (close o.relid) []
 step_closes plan logs v hosts phase place done o left planned at closed meet =
-    let h : HostSeen = a_host plan logs (Some (PhaseEnd phase)) (AwaitsClose place) (Some v) hosts (lists_but done (phase_of plan phase)) in
+    let h : HostSeen = a_host plan logs (Some (PhaseEnd phase)) (AwaitsClose place) (Some v) hosts (without_buffers (lists_but done (phase_of plan phase)) o) in
     let m : Msg = close o.relid in
     let fact = end_facts plan phase place done o left planned at in
     let base : ℕ → ChanState = marked (host_is (vps_before plan (suc phase)) Opened) left (host_before (vps_before plan (suc phase)) plan phase) in
@@ -319,12 +390,86 @@ step_closes plan logs v hosts phase place done o left planned at closed meet =
       tried_then = [];
       pieces_then = [];
       goes = tears v (slice_set hosts (o.relid - 1) now) phase place done o left at closed (record { agreed = meet.agreed; stand = next });
-      says = λ sent e. ap (λ s. s ++ (flat_map host_closes (drop place (closing_of plan phase)) ++ host_from plan (suc phase))) (sym e);
+      says = λ sent e. ap (λ s. s ++ (torn_left (drop place (closing_of plan phase)) ++ host_from plan (suc phase))) (sym e);
       heard =
           let later : List Msg = guest_from plan (suc phase) in
           let here = ends_left plan phase place done (o ∷ left) at.closing_is at.place_is in
-          ap (λ os. flat_map guest_closes os ++ later) here ∙ ap (λ xs. xs ++ later) (flat_map-cons guest_closes o left)
-          ∙ ap (λ b. ((if b then release o.relid ∷ [] else m ∷ teardown o ∷ only_sub o (release o.relid)) ++ flat_map guest_closes left) ++ later) closed ∙ ap (λ os. m ∷ (tears_down os ++ later)) (sym here);
+          ap (λ os. closes_left os ++ later) here ∙ ap (λ os. m ∷ (tears_down os ++ later)) (sym here);
+    }
+
+-- GPADL_TEARDOWN, for the page list of a buffer: behind that of the send buffer that of the receive buffer is to be torn down, and behind both the channel to be closed
+record Emptied (plan : BusPlan) (logs : Logs) (v : Version) (hosts : List ChanState) (phase place : ℕ) (done : List Opening) (o : Opening) (k : Buffer) : Type 0 where
+  hears : host_hears (a_host plan logs (Some (PhaseEnd phase)) (AwaitsEmpty place k) (Some v) hosts (lists_beside (lists_but done (phase_of plan phase)) o k)) (teardown_buffer o k)
+      ≡ Ok (record (at_rest (a_host plan logs (Some (PhaseEnd phase)) (AwaitsEmpty place k) (Some v) hosts (lists_beside (lists_but done (phase_of plan phase)) o k))) { awaits = emptied_next place k; lists = without (lists_beside (lists_but done (phase_of plan phase)) o k) (buffer_list o k); burst = One (torndown (buffer_list o k)) })
+
+emptied_so : (plan : BusPlan) (logs : Logs) (v : Version) (hosts : List ChanState) (phase place : ℕ) (done : List Opening) (o : Opening) (left : List Opening) (k : Buffer) → IsPlan plan
+    → EndsAt plan phase place done o left → o.buffers ≡ true
+    → Meet plan v hosts (offered_before plan (suc phase)) (marked (host_ends (vps_before plan (suc phase))) done (marked (host_is (vps_before plan (suc phase)) Opened) (o ∷ left) (host_before (vps_before plan (suc phase)) plan phase)))
+    → Emptied plan logs v hosts phase place done o k
+emptied_so plan logs v hosts phase place done o left k planned at has meet =
+    let lists : Assembly = lists_beside (lists_but done (phase_of plan phase)) o k in
+    let h : HostSeen = a_host plan logs (Some (PhaseEnd phase)) (AwaitsEmpty place k) (Some v) hosts lists in
+    let handle : ℕ = buffer_list o k in
+    let so : Opening → ChanState = host_is (vps_before plan (suc phase)) Opened in
+    let base : ℕ → ChanState = host_before (vps_before plan (suc phase)) plan phase in
+    let fact = end_facts plan phase place done o left planned at in
+    let known : by_relid hosts o.relid ≡ Some (so o) = stand_at hosts (offered_before plan (suc phase)) (host_ends (vps_before plan (suc phase))) done o (marked so (o ∷ left) base) (so o) meet.stand fact.fits.named fact.known fact.done_apart (marked_here so o left base) in
+    let live = buffer_live plan phase place done o left k planned at has in
+    let buffer = buffer_known plan phase place done o left k at has in
+    let mine : is_list_of k o.relid handle (closing_at plan phase place) ≡ true = ap (is_list_of k o.relid handle) (closing_here plan phase place done o left at) ∙ (λ i. same o.relid i && same handle i) in
+    let with_wait : HostWait → HostTurn = λ w. record (at_rest h) { awaits = w; lists = without lists handle; burst = One (torndown handle) } in
+    record {
+      hears = ap (on_teardown h o.relid handle) known
+          ∙ ap (λ b. if b then tears_live h o.relid handle (so o) else Err (Gpadl (Handle handle))) live
+          ∙ ap (λ b. if b then Ok (empties_one h o.relid handle) else teardown_by h o.relid handle (so o) (row_of (so o) TeardownSeen)) buffer
+          ∙ ap (λ b. Ok (with_wait (if b then emptied_next place k else AwaitsEmpty place k))) mine;
+    }
+
+pub step_empties : (plan : BusPlan) (logs : Logs) (v : Version) (hosts : List ChanState) (phase place : ℕ) (done : List Opening) (o : Opening) (left : List Opening) (k : Buffer) → IsPlan plan
+    → EndsAt plan phase place done o left → o.rescinded ≡ false → o.buffers ≡ true
+    → Meet plan v hosts (offered_before plan (suc phase)) (marked (host_ends (vps_before plan (suc phase))) done (marked (host_is (vps_before plan (suc phase)) Opened) (o ∷ left) (host_before (vps_before plan (suc phase)) plan phase)))
+    → HostStep plan (a_host plan logs (Some (PhaseEnd phase)) (AwaitsEmpty place k) (Some v) hosts (lists_beside (lists_but done (phase_of plan phase)) o k)) [] (teardown_buffer o k) []
+step_empties plan logs v hosts phase place done o left Send planned at closed has meet =
+    let h : HostSeen = a_host plan logs (Some (PhaseEnd phase)) (AwaitsEmpty place Send) (Some v) hosts (lists_but done (phase_of plan phase)) in
+    let gone : Assembly = without (lists_but done (phase_of plan phase)) (buffer_list o Send) in
+    let m : Msg = teardown_buffer o Send in
+    let answer : Msg = torndown (buffer_list o Send) in
+    let here = ends_left plan phase place done (o ∷ left) at.closing_is at.place_is in
+    let back = sym here in
+    record {
+      turn = record (at_rest h) { awaits = AwaitsEmpty place Receive; lists = gone; burst = One answer };
+      hears = (emptied_so plan logs v hosts phase place done o left Send planned at has meet).hears;
+      tried_then = [];
+      pieces_then = [];
+      goes = empties v hosts phase place done o left Receive at closed has meet;
+      says = λ sent e.
+          let later : List Msg = host_from plan (suc phase) in
+          ap (λ os. emptied_left Send os ++ later) here ∙ ap (λ os. answer ∷ (emptied_left Receive os ++ later)) back ∙ ap (λ s. s ++ (emptied_left Receive (drop place (closing_of plan phase)) ++ later)) (sym e);
+      heard =
+          let later : List Msg = guest_from plan (suc phase) in
+          ap (λ os. tears_left Send os ++ later) here ∙ ap (λ os. m ∷ (tears_left Receive os ++ later)) back;
+    }
+step_empties plan logs v hosts phase place done o left Receive planned at closed has meet =
+    let all : Assembly = lists_but done (phase_of plan phase) in
+    let h : HostSeen = a_host plan logs (Some (PhaseEnd phase)) (AwaitsEmpty place Receive) (Some v) hosts (without all (buffer_list o Send)) in
+    let gone : Assembly = without (without all (buffer_list o Send)) (buffer_list o Receive) in
+    let both : gone ≡ without_buffers all o = ap (λ b. if b then gone else all) (sym has) in
+    let m : Msg = teardown_buffer o Receive in
+    let answer : Msg = torndown (buffer_list o Receive) in
+    let here = ends_left plan phase place done (o ∷ left) at.closing_is at.place_is in
+    let back = sym here in
+    record {
+      turn = record (at_rest h) { awaits = AwaitsClose place; lists = gone; burst = One answer };
+      hears = (emptied_so plan logs v hosts phase place done o left Receive planned at has meet).hears;
+      tried_then = [];
+      pieces_then = [];
+      goes = subst (λ l. HostStands plan (Some (PhaseEnd phase)) (AwaitsClose place) (Some v) hosts l [] []) (sym both) (closes v hosts phase place done o left at closed meet);
+      says = λ sent e.
+          let later : List Msg = host_from plan (suc phase) in
+          ap (λ os. emptied_left Receive os ++ later) here ∙ ap (λ os. answer ∷ (torn_left os ++ later)) back ∙ ap (λ s. s ++ (torn_left (drop place (closing_of plan phase)) ++ later)) (sym e);
+      heard =
+          let later : List Msg = guest_from plan (suc phase) in
+          ap (λ os. tears_left Receive os ++ later) here ∙ ap (λ os. m ∷ (closes_left os ++ later)) back;
     }
 
 -- what is left to say and to hear behind a channel that is done with
@@ -352,10 +497,11 @@ ends_so plan v hosts phase place done left next in_plan is at ends =
 step_tears_first : (plan : BusPlan) (logs : Logs) (v : Version) (hosts : List ChanState) (phase place : ℕ) (done : List Opening) (o : Opening) (left : List Opening) → IsPlan plan
     → EndsAt plan phase place done o left → o.rescinded ≡ false → is_sub o ≡ false
     → Meet plan v hosts (offered_before plan (suc phase)) (marked (host_ends (vps_before plan (suc phase))) done (marked (host_is (vps_before plan (suc phase)) Closing) (o ∷ []) (marked (host_is (vps_before plan (suc phase)) Opened) left (host_before (vps_before plan (suc phase)) plan phase))))
-    → HostStep plan (a_host plan logs (Some (PhaseEnd phase)) (AwaitsTeardown place) (Some v) hosts (lists_but done (phase_of plan phase))) [] (teardown o) []
+    → HostStep plan (a_host plan logs (Some (PhaseEnd phase)) (AwaitsTeardown place) (Some v) hosts (without_buffers (lists_but done (phase_of plan phase)) o)) [] (teardown o) []
 step_tears_first plan logs v hosts phase place done o left planned at closed is_first meet =
     let os : List Opening = phase_of plan phase in
-    let h : HostSeen = a_host plan logs (Some (PhaseEnd phase)) (AwaitsTeardown place) (Some v) hosts (lists_but done os) in
+    let lists : Assembly = without_buffers (lists_but done os) o in
+    let h : HostSeen = a_host plan logs (Some (PhaseEnd phase)) (AwaitsTeardown place) (Some v) hosts lists in
     let m : Msg = teardown o in
     let count : ℕ = offered_before plan (suc phase) in
     let fact = end_facts plan phase place done o left planned at in
@@ -376,7 +522,9 @@ step_tears_first plan logs v hosts phase place done o left planned at closed is_
     ∙ ap (λ b. if b && is_sub o then taken else (if is_of o.relid (closing_at plan phase place) then later else stays h)) (same o.relid)
     ∙ ap (λ b. if b then taken else (if is_of o.relid (closing_at plan phase place) then later else stays h)) is_first
     ∙ ap (λ b. if b then later else stays h) mine in
-    let live : is_live (filter (keeps done) (handles os)) o.gpadl ≡ true = still_live plan phase place done o left planned at in
+    let live : is_live lists.live o.gpadl ≡ true = still_live plan phase place done o left planned at in
+    let rings = rings_known plan phase place done o left planned at in
+    let closing : ChanState = host_is (vps_before plan (suc phase)) Closing o in
     let gone = let_go done o os in
     let stood : Stand after count (marked (host_ends (vps_before plan (suc phase))) (done ++ o ∷ []) base) =
     stand_join hosts count (host_ends (vps_before plan (suc phase))) done o (marked (host_is (vps_before plan (suc phase)) Closing) (o ∷ []) base) base meet.stand fact.fits.named fact.known fact.done_apart (λ q off. sym (marked_there (host_is (vps_before plan (suc phase)) Closing) o [] base q off)) in
@@ -387,7 +535,8 @@ step_tears_first plan logs v hosts phase place done o left planned at closed is_
     record {
       turn = turn;
       hears = ap (on_teardown h o.relid o.gpadl) known
-          ∙ ap (λ b. if b then Ok (turn_with (host_is (vps_before plan (suc phase)) Closed o) (without (lists_but done os) o.gpadl) (torn_for h place o.relid (host_is (vps_before plan (suc phase)) Closed o) (closing_at plan phase place))) else Err (Gpadl (Handle o.gpadl))) live
+          ∙ ap (λ b. if b then tears_live h o.relid o.gpadl closing else Err (Gpadl (Handle o.gpadl))) live
+          ∙ ap (λ b. if b then Ok (empties_one h o.relid o.gpadl) else Ok (turn_with (host_is (vps_before plan (suc phase)) Closed o) (without lists o.gpadl) (torn_for h place o.relid (host_is (vps_before plan (suc phase)) Closed o) (closing_at plan phase place)))) rings
           ∙ (λ i. Ok (turn_with (back i) (gone i) (goes i)));
       tried_then = [];
       pieces_then = [];
@@ -395,8 +544,7 @@ step_tears_first plan logs v hosts phase place done o left planned at closed is_
           (host_next plan v (rescinded_among after later.rescinds) phase (place + 1) (done ++ o ∷ []) left planned at.in_plan (ends_more plan phase place done o left at) (ends_place plan phase place done o left at) (record { agreed = meet.agreed; stand = ends.host }));
       says = λ sent sends.
           let rest : List Msg = host_from plan (suc phase) in
-          ap (λ os. flat_map host_closes os ++ rest) here ∙ ap (λ xs. xs ++ rest) (flat_map-cons host_closes o left)
-          ∙ ap (λ b. ((if b then rescind o.relid ∷ [] else torndown o.gpadl ∷ only_sub o (rescind o.relid)) ++ flat_map host_closes left) ++ rest) closed
+          ap (λ os. torn_left os ++ rest) here
           ∙ ap (λ b. torndown o.gpadl ∷ (((if b then rescind o.relid ∷ [] else []) ++ flat_map host_closes left) ++ rest)) is_first ∙ on.says (Some (torndown o.gpadl)) sent sends;
       heard =
           let rest : List Msg = guest_from plan (suc phase) in
@@ -407,10 +555,11 @@ step_tears_first plan logs v hosts phase place done o left planned at closed is_
 step_tears_sub : (plan : BusPlan) (logs : Logs) (v : Version) (hosts : List ChanState) (phase place : ℕ) (done : List Opening) (o : Opening) (left : List Opening) → IsPlan plan
     → EndsAt plan phase place done o left → o.rescinded ≡ false → is_sub o ≡ true
     → Meet plan v hosts (offered_before plan (suc phase)) (marked (host_ends (vps_before plan (suc phase))) done (marked (host_is (vps_before plan (suc phase)) Closing) (o ∷ []) (marked (host_is (vps_before plan (suc phase)) Opened) left (host_before (vps_before plan (suc phase)) plan phase))))
-    → HostStep plan (a_host plan logs (Some (PhaseEnd phase)) (AwaitsTeardown place) (Some v) hosts (lists_but done (phase_of plan phase))) [] (teardown o) []
+    → HostStep plan (a_host plan logs (Some (PhaseEnd phase)) (AwaitsTeardown place) (Some v) hosts (without_buffers (lists_but done (phase_of plan phase)) o)) [] (teardown o) []
 step_tears_sub plan logs v hosts phase place done o left planned at closed sub meet =
     let os : List Opening = phase_of plan phase in
-    let h : HostSeen = a_host plan logs (Some (PhaseEnd phase)) (AwaitsTeardown place) (Some v) hosts (lists_but done os) in
+    let lists : Assembly = without_buffers (lists_but done os) o in
+    let h : HostSeen = a_host plan logs (Some (PhaseEnd phase)) (AwaitsTeardown place) (Some v) hosts lists in
     let m : Msg = teardown o in
     let count : ℕ = offered_before plan (suc phase) in
     let fact = end_facts plan phase place done o left planned at in
@@ -428,7 +577,9 @@ step_tears_sub plan logs v hosts phase place done o left planned at closed sub m
     ap (torn_for h place o.relid (host_is (vps_before plan (suc phase)) Closed o)) here_is
     ∙ ap (λ b. if b && is_sub o then taken else (if is_of o.relid (closing_at plan phase place) then later else stays h)) (same o.relid)
     ∙ ap (λ b. if b then taken else (if is_of o.relid (closing_at plan phase place) then later else stays h)) sub in
-    let live : is_live (filter (keeps done) (handles os)) o.gpadl ≡ true = still_live plan phase place done o left planned at in
+    let live : is_live lists.live o.gpadl ≡ true = still_live plan phase place done o left planned at in
+    let rings = rings_known plan phase place done o left planned at in
+    let closing : ChanState = host_is (vps_before plan (suc phase)) Closing o in
     let gone = let_go_again done o os in
     let closed_so : Stand once count (marked (host_ends (vps_before plan (suc phase))) done (marked (host_is (vps_before plan (suc phase)) Closed) (o ∷ []) base)) =
     stand_mark hosts count (host_ends (vps_before plan (suc phase))) (host_is (vps_before plan (suc phase)) Closed) done o (marked (host_is (vps_before plan (suc phase)) Closing) (o ∷ []) base) base meet.stand fact.fits.named fact.known fact.done_apart (λ q off. sym (marked_there (host_is (vps_before plan (suc phase)) Closing) o [] base q off)) in
@@ -438,15 +589,15 @@ step_tears_sub plan logs v hosts phase place done o left planned at closed sub m
     record {
       turn = turn;
       hears = ap (on_teardown h o.relid o.gpadl) known
-          ∙ ap (λ b. if b then Ok (turn_with (without (lists_but done os) o.gpadl) (torn_for h place o.relid (host_is (vps_before plan (suc phase)) Closed o) (closing_at plan phase place))) else Err (Gpadl (Handle o.gpadl))) live
-          ∙ ap (λ n. Ok (turn_with (without (lists_but done os) o.gpadl) n)) goes ∙ ap (λ l. Ok (whole l)) gone;
+          ∙ ap (λ b. if b then tears_live h o.relid o.gpadl closing else Err (Gpadl (Handle o.gpadl))) live
+          ∙ ap (λ b. if b then Ok (empties_one h o.relid o.gpadl) else Ok (turn_with (without lists o.gpadl) (torn_for h place o.relid (host_is (vps_before plan (suc phase)) Closed o) (closing_at plan phase place)))) rings
+          ∙ ap (λ n. Ok (turn_with (without lists o.gpadl) n)) goes ∙ ap (λ l. Ok (whole l)) gone;
       tried_then = [];
       pieces_then = [];
       goes = takes_back v after phase place done o left at (ap (λ b. b || is_sub o) closed ∙ sub) (record { agreed = meet.agreed; stand = stood });
       says = λ sent e.
           let rest : List Msg = host_from plan (suc phase) in
-          ap (λ os. flat_map host_closes os ++ rest) here ∙ ap (λ xs. xs ++ rest) (flat_map-cons host_closes o left)
-          ∙ ap (λ b. ((if b then rescind o.relid ∷ [] else torndown o.gpadl ∷ only_sub o (rescind o.relid)) ++ flat_map host_closes left) ++ rest) closed
+          ap (λ os. torn_left os ++ rest) here
           ∙ ap (λ b. torndown o.gpadl ∷ (((if b then rescind o.relid ∷ [] else []) ++ flat_map host_closes left) ++ rest)) sub
           ∙ ap (λ os. torndown o.gpadl ∷ rescind o.relid ∷ (flat_map host_closes os ++ rest)) (sym (ends_behind plan phase place done o left at))
           ∙ ap (λ s. s ++ (flat_map host_closes (drop (suc place) (closing_of plan phase)) ++ rest)) (sym e);
@@ -458,9 +609,9 @@ step_tears_sub plan logs v hosts phase place done o left planned at closed sub m
 pub step_tears : (plan : BusPlan) (logs : Logs) (v : Version) (hosts : List ChanState) (phase place : ℕ) (done : List Opening) (o : Opening) (left : List Opening) → IsPlan plan
     → EndsAt plan phase place done o left → o.rescinded ≡ false
     → Meet plan v hosts (offered_before plan (suc phase)) (marked (host_ends (vps_before plan (suc phase))) done (marked (host_is (vps_before plan (suc phase)) Closing) (o ∷ []) (marked (host_is (vps_before plan (suc phase)) Opened) left (host_before (vps_before plan (suc phase)) plan phase))))
-    → HostStep plan (a_host plan logs (Some (PhaseEnd phase)) (AwaitsTeardown place) (Some v) hosts (lists_but done (phase_of plan phase))) [] (teardown o) []
+    → HostStep plan (a_host plan logs (Some (PhaseEnd phase)) (AwaitsTeardown place) (Some v) hosts (without_buffers (lists_but done (phase_of plan phase)) o)) [] (teardown o) []
 step_tears plan logs v hosts phase place done o left planned at closed meet =
-    by_test {P = HostStep plan (a_host plan logs (Some (PhaseEnd phase)) (AwaitsTeardown place) (Some v) hosts (lists_but done (phase_of plan phase))) [] (teardown o) []} (is_sub o)
+    by_test {P = HostStep plan (a_host plan logs (Some (PhaseEnd phase)) (AwaitsTeardown place) (Some v) hosts (without_buffers (lists_but done (phase_of plan phase)) o)) [] (teardown o) []} (is_sub o)
     (λ e. step_tears_sub plan logs v hosts phase place done o left planned at closed e meet)
     (λ e. step_tears_first plan logs v hosts phase place done o left planned at closed e meet)
 

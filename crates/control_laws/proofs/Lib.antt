@@ -25,6 +25,9 @@ pub mod Ending
 pub mod Rescinded
 pub mod Once
 pub mod Going
+pub mod Rounds
+pub mod Starts
+pub mod Ends
 pub mod Counting
 pub mod Never
 pub mod PlainPhases

@@ -4,47 +4,52 @@ use Rattle.chan_state.specs.declared.state.State.TheVariants.{Opened, Closing, R
 use Rattle.chan_state.specs.declared.chan_state.ChanState.{ChanState}
 use Rattle.vmbus_msg.specs.declared.msg.Msg.{Msg}
 use Rattle.control_model.specs.declared.opening.Opening.{Opening}
+use Rattle.control_model.specs.declared.buffer.Buffer.TheVariants.{Send}
 use Rattle.control_model.specs.declared.channel.Channel.{Channel}
 use Rattle.control_model.specs.declared.guest_wait.GuestWait.{GuestWait}
-use Rattle.control_model.specs.declared.guest_wait.GuestWait.TheVariants.{Nothing, Torn, Rescinded}
+use Rattle.control_model.specs.declared.guest_wait.GuestWait.TheVariants.{Nothing, Unlisted, Torn, Rescinded}
 use Rattle.control_model.specs.declared.host_wait.HostWait.{HostWait}
-use Rattle.control_model.specs.declared.host_wait.HostWait.TheVariants.{Nothing as HostNothing, Close, Release}
-use Rattle.control_model.specs.Messages.{close, teardown, rescind}
+use Rattle.control_model.specs.declared.host_wait.HostWait.TheVariants.{Nothing as HostNothing, Empty, Close, Release}
+use Rattle.control_model.specs.Messages.{close, teardown, teardown_buffer, rescind}
 use Rattle.control_model.specs.Stand.{marked, guest_is, host_is}
 
--- the guest closes the first one, or waits for it to be rescinded
-abbrev pub guest_waits : ℕ → Bool → GuestWait
-guest_waits place true = Rescinded place
-guest_waits place false = Torn place
+-- the guest closes the first one, or tears the page lists of its buffers down before, where it has some; or it waits for it to be rescinded
+abbrev pub guest_waits : ℕ → Bool → Bool → GuestWait
+guest_waits place true buffers = Rescinded place
+guest_waits place false true = Unlisted place Send
+guest_waits place false false = Torn place
 
 abbrev pub guest_next_awaits : ℕ → List Opening → GuestWait
 guest_next_awaits place [] = Nothing
-guest_next_awaits place (o ∷ left) = guest_waits place o.rescinded
+guest_next_awaits place (o ∷ left) = guest_waits place o.rescinded o.buffers
 
-abbrev pub guest_marks : (ℕ → ℕ) → Opening → List Opening → (ℕ → Channel) → Bool → ℕ → Channel
-guest_marks vps o left before true = marked (guest_is vps Opened) (o ∷ left) before
-guest_marks vps o left before false = marked (guest_is vps Closing) (o ∷ []) (marked (guest_is vps Opened) left before)
+abbrev pub guest_marks : (ℕ → ℕ) → Opening → List Opening → (ℕ → Channel) → Bool → Bool → ℕ → Channel
+guest_marks vps o left before true buffers = marked (guest_is vps Opened) (o ∷ left) before
+guest_marks vps o left before false true = marked (guest_is vps Opened) (o ∷ left) before
+guest_marks vps o left before false false = marked (guest_is vps Closing) (o ∷ []) (marked (guest_is vps Opened) left before)
 
 abbrev pub guest_next_stands : (ℕ → ℕ) → List Opening → (ℕ → Channel) → ℕ → Channel
 guest_next_stands vps [] before = before
-guest_next_stands vps (o ∷ left) before = guest_marks vps o left before o.rescinded
+guest_next_stands vps (o ∷ left) before = guest_marks vps o left before o.rescinded o.buffers
 
-abbrev pub guest_sends : Opening → Bool → List Msg
-guest_sends o true = []
-guest_sends o false = close o.relid ∷ teardown o ∷ []
+abbrev pub guest_sends : Opening → Bool → Bool → List Msg
+guest_sends o true buffers = []
+guest_sends o false true = teardown_buffer o Send ∷ []
+guest_sends o false false = close o.relid ∷ teardown o ∷ []
 
 abbrev pub guest_next_sends : List Opening → List Msg
 guest_next_sends [] = []
-guest_next_sends (o ∷ left) = guest_sends o o.rescinded
+guest_next_sends (o ∷ left) = guest_sends o o.rescinded o.buffers
 
--- the host waits for it to be closed, or rescinds it: its page list ends
-abbrev pub host_waits : ℕ → Bool → HostWait
-host_waits place true = Release place
-host_waits place false = Close place
+-- the host waits for it to be closed, or for the page lists of its buffers to be torn down before; or it rescinds it: all its page lists end
+abbrev pub host_waits : ℕ → Bool → Bool → HostWait
+host_waits place true buffers = Release place
+host_waits place false true = Empty place Send
+host_waits place false false = Close place
 
 abbrev pub host_next_awaits : ℕ → List Opening → HostWait
 host_next_awaits place [] = HostNothing
-host_next_awaits place (o ∷ left) = host_waits place o.rescinded
+host_next_awaits place (o ∷ left) = host_waits place o.rescinded o.buffers
 
 abbrev pub host_marks : (ℕ → ℕ) → Opening → List Opening → (ℕ → ChanState) → Bool → ℕ → ChanState
 host_marks vps o left before true = marked (host_is vps IsRescinded) (o ∷ []) (marked (host_is vps Opened) left before)

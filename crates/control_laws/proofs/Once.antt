@@ -12,10 +12,11 @@ use Rattle.contact.specs.Versions.{versions_tried, answers_modify}
 use Rattle.contact.specs.Classes.{offer, offers_from}
 use Rattle.vmbus_msg.specs.declared.msg.Msg.{Msg}
 use Rattle.gpadl.specs.Cut.{bodies, cut}
+use Rattle.control_model.specs.declared.buffer.Buffer.TheVariants.{Receive, Send}
 use Rattle.control_model.specs.declared.opening.Opening.{Opening}
-use Rattle.control_model.specs.Plan.{BusPlan, IsOpening, is_sub, is_later, first_subs, subs_next, laters, in_closing_order, opening_at, IsPlan, phase_of, closing_of, vp_for}
-use Rattle.control_model.specs.Messages.{propose, request, delivered, pages_from, created, open_on, opened, modify, modified, offer_sub, offer_service, close, teardown, torndown, rescind, release, farewell, farewell_taken}
-use Rattle.control_model.specs.Said.{agreed, answer_to, moved, guest_moves, host_moves, guest_contacts, host_contacts, dials, dial_offers, guest_lists, guest_opens, host_opens, host_opens_all, guest_closes, host_closes, guest_in_phase, host_in_phase, from_3_0, ends_given_back}
+use Rattle.control_model.specs.Plan.{BusPlan, buffer_list, IsOpening, is_sub, is_later, first_subs, subs_next, laters, in_closing_order, opening_at, IsPlan, phase_of, closing_of, vp_for}
+use Rattle.control_model.specs.Messages.{propose, request, delivered, pages_from, buffer_pages, created, open_on, opened, modify, modified, offer_sub, offer_service, close, teardown, teardown_buffer, torndown, rescind, release, farewell, farewell_taken}
+use Rattle.control_model.specs.Said.{agreed, answer_to, moved, guest_moves, host_moves, guest_contacts, host_contacts, dials, dial_offers, guest_lists, guest_buffer, guest_buffers, host_buffer, host_buffers, guest_opens, host_opens, host_opens_all, guest_closes, host_closes, guest_in_phase, host_in_phase, from_3_0, ends_given_back}
 use Rattle.control_model.specs.Stand.{offered_before, EndsAt}
 use Rattle.control_laws.specs.Laws.{is_rescind_of, is_release_of, is_offer_of, RescindedOnce, SubsOnce, ServicesOnce}
 use Rattle.control_laws.proofs.Marks.{by_test, same, differ}
@@ -175,16 +176,24 @@ no_dial_offer : (relid r : ℕ) (dialed : Option ℕ) → filter (is_rescind_of 
 no_dial_offer relid r None = refl
 no_dial_offer relid r (Some port) = refl
 
+no_fill_answer : (relid : ℕ) (o : Opening) → filter (is_rescind_of relid) (host_buffers o) ≡ []
+no_fill_answer relid o = by_buffers o.buffers
+  where
+    by_buffers : (b : Bool) → filter (is_rescind_of relid) (if b then host_buffer o Receive ∷ host_buffer o Send ∷ [] else []) ≡ []
+    by_buffers true = refl
+    by_buffers false = refl
+
 host_starts : (relid : ℕ) (os : List Opening) → filter (is_rescind_of relid) (host_opens_all os) ≡ []
 host_starts relid [] = refl
 host_starts relid (o ∷ os) =
     let p : Msg → Bool = is_rescind_of relid in
-    let both : List Msg = created o.relid o.gpadl ∷ opened o.relid o.relid ∷ [] in
+    let both : List Msg = created o.relid o.gpadl ∷ opened o.relid o.relid ∷ host_buffers o in
+    let fill = no_fill_answer relid o in
     let rest : List Msg = map offer_sub (subs_next (o ∷ os)) ++ host_opens_all os in
     let d = no_dial_offer relid o.relid o.dialed in
     let a = no_sub_offer relid (subs_next (o ∷ os)) in
     let b = host_starts relid os in
-    filter-append p (host_opens o) rest ∙ ap (λ xs. xs ++ filter p rest) (filter-append p (dial_offers o.relid o.dialed) both) ∙ ap (λ xs. (xs ++ []) ++ filter p rest) d
+    filter-append p (host_opens o) rest ∙ ap (λ xs. xs ++ filter p rest) (filter-append p (dial_offers o.relid o.dialed) both) ∙ (λ i. (d i ++ fill i) ++ filter p rest)
     ∙ filter-append p (map offer_sub (subs_next (o ∷ os))) (host_opens_all os) ∙ (λ i. a i ++ b i)
 
 -- of one channel
@@ -196,10 +205,12 @@ it_passes r relid m = by_test {P = cond (r == relid) (m r ∷ []) [] ≡ cond ((
 none_passes : (r relid : ℕ) (m : Msg) → [] ≡ cond ((r == relid) && false) (m ∷ []) []
 none_passes r relid m = sym (ap (λ b. cond b (m ∷ []) []) (and_none (r == relid)))
 
-host_passes : (relid : ℕ) (o : Opening) (b c : Bool) → filter (is_rescind_of relid) (if b then rescind o.relid ∷ [] else torndown o.gpadl ∷ (if c then rescind o.relid ∷ [] else [])) ≡ cond ((o.relid == relid) && (b || c)) (rescind relid ∷ []) []
-host_passes relid o true c = it_passes o.relid relid rescind
-host_passes relid o false true = it_passes o.relid relid rescind
-host_passes relid o false false = none_passes o.relid relid (rescind relid)
+host_passes : (relid : ℕ) (o : Opening) (b e c : Bool) → filter (is_rescind_of relid) (if b then rescind o.relid ∷ [] else (if e then torndown (buffer_list o Send) ∷ torndown (buffer_list o Receive) ∷ [] else []) ++ (torndown o.gpadl ∷ (if c then rescind o.relid ∷ [] else []))) ≡ cond ((o.relid == relid) && (b || c)) (rescind relid ∷ []) []
+host_passes relid o true e c = it_passes o.relid relid rescind
+host_passes relid o false true true = it_passes o.relid relid rescind
+host_passes relid o false false true = it_passes o.relid relid rescind
+host_passes relid o false true false = none_passes o.relid relid (rescind relid)
+host_passes relid o false false false = none_passes o.relid relid (rescind relid)
 
 -- the guest gives it back
 guest_contact : (relid : ℕ) (plan : BusPlan) → filter (is_release_of relid) (guest_contacts plan) ≡ []
@@ -222,24 +233,38 @@ no_dial : (relid : ℕ) (dialed : Option ℕ) → filter (is_release_of relid) (
 no_dial relid None = refl
 no_dial relid (Some port) = refl
 
+no_fill : (relid : ℕ) (o : Opening) → filter (is_release_of relid) (guest_buffers o) ≡ []
+no_fill relid o = by_buffers o.buffers
+  where
+    by_buffers : (b : Bool) → filter (is_release_of relid) (if b then guest_buffer o Receive ++ guest_buffer o Send else []) ≡ []
+    by_buffers true =
+        let p : Msg → Bool = is_release_of relid in
+        let a = no_cut relid o.relid (buffer_list o Receive) (buffer_pages o Receive) in
+        let c = no_cut relid o.relid (buffer_list o Send) (buffer_pages o Send) in
+        filter-append p (guest_buffer o Receive) (guest_buffer o Send) ∙ (λ i. a i ++ c i)
+    by_buffers false = refl
+
 guest_starts : (relid : ℕ) (o : Opening) → filter (is_release_of relid) (guest_opens o) ≡ []
 guest_starts relid o =
     let p : Msg → Bool = is_release_of relid in
     let d = no_dial relid o.dialed in
     let a = no_cut relid o.relid o.gpadl (pages_from o) in
-    filter-append p (dials o.dialed) (guest_lists o) ∙ ap (λ xs. xs ++ filter p (guest_lists o)) d ∙ filter-append p (cut o.relid o.gpadl (pages_from o)) (open_on o ∷ []) ∙ (λ i. a i ++ [])
+    let fill = no_fill relid o in
+    filter-append p (dials o.dialed) (guest_lists o) ∙ ap (λ xs. xs ++ filter p (guest_lists o)) d ∙ filter-append p (cut o.relid o.gpadl (pages_from o)) (open_on o ∷ guest_buffers o) ∙ (λ i. a i ++ fill i)
 
-guest_passes : (relid : ℕ) (o : Opening) (b c : Bool) → filter (is_release_of relid) (if b then release o.relid ∷ [] else close o.relid ∷ teardown o ∷ (if c then release o.relid ∷ [] else [])) ≡ cond ((o.relid == relid) && (b || c)) (release relid ∷ []) []
-guest_passes relid o true c = it_passes o.relid relid release
-guest_passes relid o false true = it_passes o.relid relid release
-guest_passes relid o false false = none_passes o.relid relid (release relid)
+guest_passes : (relid : ℕ) (o : Opening) (b e c : Bool) → filter (is_release_of relid) (if b then release o.relid ∷ [] else (if e then teardown_buffer o Send ∷ teardown_buffer o Receive ∷ [] else []) ++ (close o.relid ∷ teardown o ∷ (if c then release o.relid ∷ [] else []))) ≡ cond ((o.relid == relid) && (b || c)) (release relid ∷ []) []
+guest_passes relid o true e c = it_passes o.relid relid release
+guest_passes relid o false true true = it_passes o.relid relid release
+guest_passes relid o false false true = it_passes o.relid relid release
+guest_passes relid o false true false = none_passes o.relid relid (release relid)
+guest_passes relid o false false false = none_passes o.relid relid (release relid)
 
 host_once : (plan : BusPlan) (phase place : ℕ) (o : Opening) → IsPlan plan → opening_at plan phase place ≡ Some o → ends_given_back o ≡ true → filter (is_rescind_of o.relid) (flat_map (host_in_phase plan) plan.phases) ≡ rescind o.relid ∷ []
-host_once plan phase place o planned is gone = given_once plan phase place o (is_rescind_of o.relid) host_opens_all (host_moves plan) host_closes (rescind o.relid) planned is gone (host_starts o.relid) (λ os. host_moves_none (is_rescind_of o.relid) plan os (λ q. refl)) (λ q. host_passes o.relid q q.rescinded (is_sub q))
+host_once plan phase place o planned is gone = given_once plan phase place o (is_rescind_of o.relid) host_opens_all (host_moves plan) host_closes (rescind o.relid) planned is gone (host_starts o.relid) (λ os. host_moves_none (is_rescind_of o.relid) plan os (λ q. refl)) (λ q. host_passes o.relid q q.rescinded q.buffers (is_sub q))
 
 guest_once : (plan : BusPlan) (phase place : ℕ) (o : Opening) → IsPlan plan → opening_at plan phase place ≡ Some o → ends_given_back o ≡ true → filter (is_release_of o.relid) (flat_map (guest_in_phase plan) plan.phases) ≡ release o.relid ∷ []
 guest_once plan phase place o planned is gone =
-    given_once plan phase place o (is_release_of o.relid) (flat_map guest_opens) (guest_moves plan) guest_closes (release o.relid) planned is gone (λ os. none_of_each (is_release_of o.relid) guest_opens os (guest_starts o.relid)) (λ os. guest_moves_none (is_release_of o.relid) plan os (λ q. refl)) (λ q. guest_passes o.relid q q.rescinded (is_sub q))
+    given_once plan phase place o (is_release_of o.relid) (flat_map guest_opens) (guest_moves plan) guest_closes (release o.relid) planned is gone (λ os. none_of_each (is_release_of o.relid) guest_opens os (guest_starts o.relid)) (λ os. guest_moves_none (is_release_of o.relid) plan os (λ q. refl)) (λ q. guest_passes o.relid q q.rescinded q.buffers (is_sub q))
 
 host_said_once : (plan : BusPlan) (phase place : ℕ) (o : Opening) (posted : List Msg) → IsPlan plan → opening_at plan phase place ≡ Some o → ends_given_back o ≡ true → posted ≡ host_contacts plan ++ (flat_map (host_in_phase plan) plan.phases ++ from_3_0 plan (farewell_taken ∷ []))
     → filter (is_rescind_of o.relid) posted ≡ rescind o.relid ∷ []
@@ -274,10 +299,12 @@ offers_contact relid plan above =
     filter-append p (map (answer_to plan) tried) (offers_from 1 plan.kinds ++ delivered ∷ []) ∙ ap (λ xs. filter p (map (answer_to plan) tried) ++ xs) (filter-append p (offers_from 1 plan.kinds) (delivered ∷ []))
     ∙ (λ i. a i ++ (b i ++ []))
 
-no_offer : (relid : ℕ) (o : Opening) (b c : Bool) → filter (is_offer_of relid) (if b then rescind o.relid ∷ [] else torndown o.gpadl ∷ (if c then rescind o.relid ∷ [] else [])) ≡ []
-no_offer relid o true c = refl
-no_offer relid o false true = refl
-no_offer relid o false false = refl
+no_offer : (relid : ℕ) (o : Opening) (b e c : Bool) → filter (is_offer_of relid) (if b then rescind o.relid ∷ [] else (if e then torndown (buffer_list o Send) ∷ torndown (buffer_list o Receive) ∷ [] else []) ++ (torndown o.gpadl ∷ (if c then rescind o.relid ∷ [] else []))) ≡ []
+no_offer relid o true e c = refl
+no_offer relid o false true true = refl
+no_offer relid o false true false = refl
+no_offer relid o false false true = refl
+no_offer relid o false false false = refl
 
 join : (t : Bool) (m : Msg) (xs ys zs : List Msg) → xs ++ ys ≡ zs → cond t (m ∷ xs) xs ++ ys ≡ cond t (m ∷ zs) zs
 join true m xs ys zs e = ap (λ ns. m ∷ ns) e
@@ -342,7 +369,11 @@ module _ (relid : ℕ) where
       (λ i. a i ++ (none i ++ (c i ++ offers_all os))) ∙ rest ∙ sym (ap (λ b. offers_in (cond b (o ∷ laters os) (laters os))) now)
 
   opens_so : (o : Opening) → filter (is_offer_of relid) (host_opens o) ≡ dialed_in o
-  opens_so o = filter-append (is_offer_of relid) (dial_offers o.relid o.dialed) (created o.relid o.gpadl ∷ opened o.relid o.relid ∷ []) ∙ append-nil (dialed_in o)
+  opens_so o = filter-append (is_offer_of relid) (dial_offers o.relid o.dialed) (created o.relid o.gpadl ∷ opened o.relid o.relid ∷ host_buffers o) ∙ ap (λ xs. dialed_in o ++ xs) (no_fill_offer o.buffers) ∙ append-nil (dialed_in o)
+    where
+      no_fill_offer : (b : Bool) → filter (is_offer_of relid) (if b then host_buffer o Receive ∷ host_buffer o Send ∷ [] else []) ≡ []
+      no_fill_offer true = refl
+      no_fill_offer false = refl
 
   offers_so : (os : List Opening) → AllByRecursion Alone os → offers_subs (first_subs os) ++ offers_all os ≡ offers_in (laters os)
   offers_so [] all = refl
@@ -376,7 +407,7 @@ module _ (relid : ℕ) where
       let none = starts_first os (phase_seated plan j planned few) in
       let alone = all_weaker IsOpening Alone (λ q fits. fits.alone) os (phase_has plan j planned few).fits in
       let starts : offers_all os ≡ offers_in (laters os) = sym (ap (λ xs. offers_subs xs ++ offers_all os) none) ∙ offers_so os alone in
-      let ends = none_of_each (is_offer_of relid) host_closes (closing_of plan j) (λ q. no_offer relid q q.rescinded (is_sub q)) in
+      let ends = none_of_each (is_offer_of relid) host_closes (closing_of plan j) (λ q. no_offer relid q q.rescinded q.buffers (is_sub q)) in
       let moves = host_moves_none (is_offer_of relid) plan os (λ q. refl) in
       filter-append (is_offer_of relid) (host_opens_all os) (host_moves plan os ++ flat_map host_closes (closing_of plan j)) ∙ ap (λ xs. filter (is_offer_of relid) (host_opens_all os) ++ xs) (filter-append (is_offer_of relid) (host_moves plan os) (flat_map host_closes (closing_of plan j)))
       ∙ (λ i. starts i ++ (moves i ++ ends i))

@@ -5,7 +5,7 @@ use Rattle.std.proofs.lemmas.List.Concat.{flat_map-cons}
 use Rattle.control_model.specs.declared.opening.Opening.{Opening}
 use Rattle.control_model.specs.Plan.{is_sub, first_subs, subs_next, laters, behind_subs, in_closing_order, all_openings}
 use Rattle.control_model.specs.Messages.{offer_sub, close, teardown, torndown, rescind, release}
-use Rattle.control_model.specs.Said.{guest_opens, host_opens, host_opens_all, guest_closes, host_closes, guest_moves, host_moves}
+use Rattle.control_model.specs.Said.{guest_empties, host_empties, guest_opens, host_opens, host_opens_all, guest_closes, host_closes, guest_moves, host_moves}
 use Rattle.control_laws.specs.Plain.{NoSubs, NoLater, guest_closes_one, host_closes_one, PlainGuest, PlainHost, PlainCount}
 
 -- they are closed in the order in which they were opened
@@ -32,10 +32,10 @@ opens_plain (o ∷ os) none =
     (λ i. host_opens o ++ (map offer_sub (none_next i) ++ rest i)) ∙ sym (flat_map-cons host_opens o os)
 
 guest_one : (o : Opening) → is_sub o ≡ false → guest_closes o ≡ guest_closes_one o
-guest_one o none = ap (λ b. if o.rescinded then release o.relid ∷ [] else close o.relid ∷ teardown o ∷ (if b then release o.relid ∷ [] else [])) none
+guest_one o none = ap (λ b. if o.rescinded then release o.relid ∷ [] else guest_empties o ++ (close o.relid ∷ teardown o ∷ (if b then release o.relid ∷ [] else []))) none
 
 host_one : (o : Opening) → is_sub o ≡ false → host_closes o ≡ host_closes_one o
-host_one o none = ap (λ b. if o.rescinded then rescind o.relid ∷ [] else torndown o.gpadl ∷ (if b then rescind o.relid ∷ [] else [])) none
+host_one o none = ap (λ b. if o.rescinded then rescind o.relid ∷ [] else host_empties o ++ (torndown o.gpadl ∷ (if b then rescind o.relid ∷ [] else []))) none
 
 guest_all : (os : List Opening) → NoSubs os → flat_map guest_closes os ≡ flat_map guest_closes_one os
 guest_all [] none = refl

@@ -1,13 +1,14 @@
 -- What a plan says of an opening at its place.
-use Rattle.std.proofs.Common.{◌≡◌, ◌≢◌, ◌∙◌, ℕ, zero, suc, ◌+◌, ◌<◌, ◌≤◌, ◌||◌, is_some, Bool, true, false, cond, if◌then◌else◌, List, [], ◌∷◌, ◌++◌, length, map, take, drop, get_or, slice_get, slice_index_or, Option, Some, None, All, refl, sym, ap, subst, append_assoc, length-append, arith}
+use Rattle.std.proofs.Common.{◌≡◌, ◌≢◌, ◌∙◌, ℕ, zero, suc, ◌+◌, ◌<◌, ◌≤◌, ◌==◌, ◌&&◌, ◌||◌, is_some, Bool, true, false, cond, if◌then◌else◌, List, [], ◌∷◌, ◌++◌, length, map, take, drop, get_or, slice_get, slice_index_or, Option, Some, None, All, refl, sym, ap, subst, append_assoc, length-append, arith}
 use Rattle.std.specs.List.{AllByRecursion, range_with_len}
 use Rattle.std.proofs.lemmas.List.Elements.{All-get_or}
+use Rattle.std.proofs.lemmas.Bool.{eqb-true}
 use Rattle.control_model.specs.declared.opening.Opening.{Opening}
 use Rattle.control_model.specs.declared.channel.Channel.{Channel}
-use Rattle.control_model.specs.Plan.{BusPlan, is_sub, is_later, first_subs, firsts, laters, in_closing_order, opening_at, closing_of, closing_at, IsOpening, Rising, Follows, RescindsEnd, all_openings, first_gpadl, list_pages, IsPlan, phase_of}
+use Rattle.control_model.specs.Plan.{BusPlan, is_sub, is_later, first_subs, subs_next, Bare, firsts, laters, in_closing_order, opening_at, closing_of, closing_at, IsOpening, Rising, Follows, RescindsEnd, all_openings, first_gpadl, is_buffer, lists_with, lists_of, pages_of, IsPlan, phase_of}
 use Rattle.control_model.specs.Channels.{is_handle}
 use Rattle.control_model.specs.Said.{ends_given_back}
-use Rattle.control_model.specs.Stand.{At, EndsAt, offered_before, offered_by, offered_for, count_dialed, guest_ends, guest_before}
+use Rattle.control_model.specs.Stand.{At, EndsAt, offered_before, offered_by, offered_for, count_dialed, guest_ends, guest_before, has_list}
 use Rattle.control_laws.proofs.Marks.{by_test, differ, marked_has}
 use Rattle.control_laws.proofs.Closing.{all_closing, Distinct, distinct_closing, distinct_mid}
 use Rattle.control_laws.proofs.Cutting.{all_weaker, mid_all, openings_more, openings_cut, by_all}
@@ -31,26 +32,39 @@ done_more plan phase place done o left at = at.phase_is ∙ sym (append_assoc do
 pub place_more : (plan : BusPlan) (phase place : ℕ) (done : List Opening) (o : Opening) (left : List Opening) → At plan phase place done o left → place + 1 ≡ length (done ++ o ∷ [])
 place_more plan phase place done o left at = omega (arith, at.place_is, length-append done (o ∷ []))
 
+-- how many page lists openings have
+abbrev pub lists_in : List Opening → ℕ
+lists_in [] = 0
+lists_in (o ∷ os) = lists_of o + lists_in os
+
+lists_more : (xs ys : List Opening) → lists_in (xs ++ ys) ≡ lists_in xs + lists_in ys
+lists_more [] ys = omega arith
+lists_more (x ∷ xs) ys = let rest = lists_more xs ys in omega (arith, rest)
+
+some_lists : (b : Bool) → 1 ≤ lists_with b
+some_lists true = omega arith
+some_lists false = omega arith
+
 -- handles follow each other
 pub record FollowsBehind (gpadl : ℕ) (os : List Opening) : Type 0 where
   pub page : ℕ
   pub follows : Follows gpadl page os
 
-behind : (gpadl page : ℕ) (xs ys : List Opening) → Follows gpadl page (xs ++ ys) → FollowsBehind (gpadl + length xs) ys
+behind : (gpadl page : ℕ) (xs ys : List Opening) → Follows gpadl page (xs ++ ys) → FollowsBehind (gpadl + lists_in xs) ys
 behind gpadl page [] ys follows = record { page = page; follows = subst (λ g. Follows g page ys) (omega arith) follows }
 behind gpadl page (x ∷ xs) ys follows =
-    let rest = behind (gpadl + 1) (page + list_pages x.ring_pages) xs ys follows.2 in
+    let rest = behind (gpadl + lists_of x) (page + pages_of x) xs ys follows.2 in
     record { page = rest.page; follows = subst (λ g. Follows g rest.page ys) (omega arith) rest.follows }
 
 ahead : (gpadl page : ℕ) (xs ys : List Opening) → Follows gpadl page (xs ++ ys) → Follows gpadl page xs
 ahead gpadl page [] ys follows = tt
-ahead gpadl page (x ∷ xs) ys follows = (follows.0, follows.1, ahead (gpadl + 1) (page + list_pages x.ring_pages) xs ys follows.2)
+ahead gpadl page (x ∷ xs) ys follows = (follows.0, follows.1, ahead (gpadl + lists_of x) (page + pages_of x) xs ys follows.2)
 
-within : (low high gpadl page : ℕ) (xs : List Opening) → low ≤ gpadl → gpadl + length xs ≤ high → Follows gpadl page xs → AllByRecursion (λ p. (low ≤ p.gpadl) × (p.gpadl < high)) xs
+within : (low high gpadl page : ℕ) (xs : List Opening) → low ≤ gpadl → gpadl + lists_in xs ≤ high → Follows gpadl page xs → AllByRecursion (λ p. (low ≤ p.gpadl) × (p.gpadl + lists_of p ≤ high)) xs
 within low high gpadl page [] less most follows = tt
 within low high gpadl page (x ∷ xs) less most follows =
     let e = follows.0 in
-    ((omega (arith, e, less), omega (arith, e, most)), within low high (gpadl + 1) (page + list_pages x.ring_pages) xs (omega (arith, less)) (omega (arith, most)) follows.2)
+    ((omega (arith, e, less), omega (arith, e, most)), within low high (gpadl + lists_of x) (page + pages_of x) xs (omega (arith, less)) (omega (arith, most)) follows.2)
 
 -- an opening that a plan has, with those before and behind it
 pub record CutAt (plan : BusPlan) (phase place : ℕ) (o : Opening) : Type 0 where
@@ -98,11 +112,11 @@ cut_at plan phase place o is =
 
 -- the first handle of a phase
 abbrev first_of : BusPlan → ℕ → ℕ
-first_of plan k = first_gpadl + length (all_openings (take k plan.phases))
+first_of plan k = first_gpadl + lists_in (all_openings (take k plan.phases))
 
-first_more : (plan : BusPlan) (k : ℕ) → k < length plan.phases → first_of plan (suc k) ≡ first_of plan k + length (phase_of plan k)
+first_more : (plan : BusPlan) (k : ℕ) → k < length plan.phases → first_of plan (suc k) ≡ first_of plan k + lists_in (phase_of plan k)
 first_more plan k less =
-    let e : length (all_openings (take (suc k) plan.phases)) ≡ length (all_openings (take k plan.phases)) + length (phase_of plan k) = ap length (openings_more plan.phases k less) ∙ length-append (all_openings (take k plan.phases)) (phase_of plan k) in
+    let e : lists_in (all_openings (take (suc k) plan.phases)) ≡ lists_in (all_openings (take k plan.phases)) + lists_in (phase_of plan k) = ap lists_in (openings_more plan.phases k less) ∙ lists_more (all_openings (take k plan.phases)) (phase_of plan k) in
     omega (arith, e)
 
 phase_follows : (plan : BusPlan) (k : ℕ) → IsPlan plan → k < length plan.phases → FollowsBehind (first_of plan k) (phase_of plan k)
@@ -128,7 +142,7 @@ lows plan vps (suc k) relid planned few =
     let here = phase_follows plan k planned less in
     let mine = within (first_of plan k) (first_of plan (suc k)) (first_of plan k) here.page (phase_of plan k) (omega arith) (omega (arith, more)) here.follows in
     marked_has (guest_ends vps) (λ (c : Channel). IsLow (first_of plan (suc k)) c.gpadl) (phase_of plan k) (guest_before vps plan k) relid
-    (all_weaker (λ p. (first_of plan k ≤ p.gpadl) × (p.gpadl < first_of plan (suc k))) (λ p. p.gpadl < first_of plan (suc k)) (λ p b. b.1) (phase_of plan k) mine)
+    (all_weaker (λ p. (first_of plan k ≤ p.gpadl) × (p.gpadl + lists_of p ≤ first_of plan (suc k))) (λ p. p.gpadl < first_of plan (suc k)) (λ p b. let most = b.1 in let some = some_lists p.buffers in omega (arith, most, some)) (phase_of plan k) mine)
     (low_more (first_of plan k) (first_of plan (suc k)) (guest_before vps plan k relid).gpadl (omega (arith, more)) (lows plan vps k relid planned (omega (arith, less))))
 
 not_low : (n m : ℕ) (h : Option ℕ) → n ≤ m → IsLow n h → is_handle m h ≡ false
@@ -156,8 +170,71 @@ handles_distinct : (gpadl page : ℕ) (os : List Opening) → Follows gpadl page
 handles_distinct gpadl page [] follows = tt
 handles_distinct gpadl page (o ∷ os) follows =
     let mine = follows.0 in
-    let rest = within (gpadl + 1) (gpadl + 1 + length os) (gpadl + 1) (page + list_pages o.ring_pages) os (omega arith) (omega arith) follows.2 in
-    (all_weaker (λ p. (gpadl + 1 ≤ p.gpadl) × (p.gpadl < gpadl + 1 + length os)) (λ p. p.gpadl ≢ o.gpadl) (λ p b e. let low = b.0 in absurd (omega (arith, low, e, mine))) os rest, handles_distinct (gpadl + 1) (page + list_pages o.ring_pages) os follows.2)
+    let some = some_lists o.buffers in
+    let from : ℕ = gpadl + lists_of o in
+    let rest = within from (from + lists_in os) from (page + pages_of o) os (omega arith) (omega arith) follows.2 in
+    (all_weaker (λ p. (from ≤ p.gpadl) × (p.gpadl + lists_of p ≤ from + lists_in os)) (λ p. p.gpadl ≢ o.gpadl) (λ p b e. let low = b.0 in absurd (omega (arith, low, e, mine, some))) os rest, handles_distinct from (page + pages_of o) os follows.2)
+
+-- no list of one opening is one of the other's
+abbrev pub Apart : Opening → Opening → Type 0
+Apart o p = (h : ℕ) → has_list o h ≡ true → has_list p h ≡ false
+
+either : (a b : Bool) → (a || b) ≡ true → (a ≡ false) → b ≡ true
+either true b e off = absurd (let wrong : true ≡ false = off in cc)
+either false b e off = e
+
+in_list : (o : Opening) (h : ℕ) → has_list o h ≡ true → (o.gpadl ≤ h) × (h < o.gpadl + lists_of o)
+in_list o h is = by_test {P = (o.gpadl ≤ h) × (h < o.gpadl + lists_of o)} (o.gpadl == h)
+    (λ e. let here = eqb-true o.gpadl h e in let some = some_lists o.buffers in (omega (arith, here), omega (arith, here, some)))
+    (λ e. in_buffers o.buffers refl (either (o.gpadl == h) (is_buffer o h) is e))
+  where
+    in_buffers : (b : Bool) → o.buffers ≡ b → is_buffer o h ≡ true → (o.gpadl ≤ h) × (h < o.gpadl + lists_of o)
+    in_buffers false none is = absurd (let wrong : true ≡ false = sym is ∙ ap (λ c. c && ((o.gpadl + 1 == h) || (o.gpadl + 2 == h))) none in cc)
+    in_buffers true has is =
+        let three : lists_of o ≡ 3 = ap lists_with has in
+        by_test {P = (o.gpadl ≤ h) × (h < o.gpadl + lists_of o)} (o.gpadl + 1 == h)
+        (λ e. let here = eqb-true (o.gpadl + 1) h e in (omega (arith, here), omega (arith, here, three)))
+        (λ e. let here = eqb-true (o.gpadl + 2) h (either (o.gpadl + 1 == h) (o.gpadl + 2 == h) (sym (ap (λ c. c && ((o.gpadl + 1 == h) || (o.gpadl + 2 == h))) has) ∙ is) e) in (omega (arith, here), omega (arith, here, three)))
+
+off_buffers : (o : Opening) (h : ℕ) (b : Bool) → o.buffers ≡ b → ((o.gpadl ≤ h) → (h < o.gpadl + lists_of o) → ⊥) → is_buffer o h ≡ false
+off_buffers o h false none off = ap (λ c. c && ((o.gpadl + 1 == h) || (o.gpadl + 2 == h))) none
+off_buffers o h true has off =
+    let three : lists_of o ≡ 3 = ap lists_with has in
+    let one = differ (o.gpadl + 1) h (λ e. off (omega (arith, e)) (omega (arith, e, three))) in
+    let two = differ (o.gpadl + 2) h (λ e. off (omega (arith, e)) (omega (arith, e, three))) in
+    (λ i. has i && (one i || two i))
+
+off_list : (o : Opening) (h : ℕ) → ((o.gpadl ≤ h) → (h < o.gpadl + lists_of o) → ⊥) → has_list o h ≡ false
+off_list o h off =
+    let some = some_lists o.buffers in
+    let rings = differ o.gpadl h (λ e. off (omega (arith, e)) (omega (arith, e, some))) in
+    let buffers = off_buffers o h o.buffers refl off in
+    (λ i. rings i || buffers i)
+
+apart_by : (o p : Opening) → o.gpadl + lists_of o ≤ p.gpadl → Apart o p
+apart_by o p less h is = let here = in_list o h is in off_list p h (λ low high. absurd (omega (arith, here.1, less, low)))
+
+apart_back : (o p : Opening) → o.gpadl + lists_of o ≤ p.gpadl → Apart p o
+apart_back o p less h is = let here = in_list p h is in off_list o h (λ low high. absurd (omega (arith, here.0, less, high)))
+
+abbrev Spaced : List Opening → Type 0
+Spaced os = AllByRecursion (λ p. AllByRecursion (λ q. q.gpadl ≢ p.gpadl → Apart p q) os) os
+
+spaced : (gpadl page : ℕ) (os : List Opening) → Follows gpadl page os → Spaced os
+spaced gpadl page [] follows = tt
+spaced gpadl page (o ∷ os) follows =
+    let mine = follows.0 in
+    let from : ℕ = gpadl + lists_of o in
+    let ahead = within from (from + lists_in os) from (page + pages_of o) os (omega arith) (omega arith) follows.2 in
+    let rest = spaced from (page + pages_of o) os follows.2 in
+    let In : Opening → Type 0 = λ p. (from ≤ p.gpadl) × (p.gpadl + lists_of p ≤ from + lists_in os) in (
+      ((λ off. absurd (off refl)), all_weaker In (λ q. q.gpadl ≢ o.gpadl → Apart o q) (λ q b off. let low = b.0 in apart_by o q (omega (arith, low, mine))) os ahead),
+      both In (λ p. AllByRecursion (λ q. q.gpadl ≢ p.gpadl → Apart p q) os) (λ p. AllByRecursion (λ q. q.gpadl ≢ p.gpadl → Apart p q) (o ∷ os)) (λ p b all. ((λ off. let low = b.0 in apart_back o p (omega (arith, low, mine))), all)) os ahead rest,
+    )
+  where
+    both : (P Q R : Opening → Type 0) → ((o : Opening) → P o → Q o → R o) → (os : List Opening) → AllByRecursion P os → AllByRecursion Q os → AllByRecursion R os
+    both P Q R f [] p q = tt
+    both P Q R f (o ∷ os) p q = (f o p.0 q.0, both P Q R f os p.1 q.1)
 
 -- what a plan says of all openings of a phase, in some order
 pub record PhaseHas (plan : BusPlan) (phase : ℕ) (os : List Opening) : Type 0 where
@@ -165,6 +242,7 @@ pub record PhaseHas (plan : BusPlan) (phase : ℕ) (os : List Opening) : Type 0 
   pub known : AllByRecursion (λ p. p.relid ≤ offered_before plan (suc phase)) os
   pub relids : Distinct (λ p. p.relid) os
   pub handles : Distinct (λ p. p.gpadl) os
+  pub lists : AllByRecursion (λ p. AllByRecursion (λ q. q.gpadl ≢ p.gpadl → Apart p q) os) os
   pub not_before : (j : ℕ) → j < phase → AllByRecursion (λ q. AllByRecursion (λ p. p.relid ≡ q.relid → ends_given_back q ≡ false) os) (phase_of plan j)
   pub before_handles : AllByRecursion (λ p. (vps : ℕ → ℕ) (relid : ℕ) → is_handle p.gpadl (guest_before vps plan phase relid).gpadl ≡ false) os
 
@@ -195,14 +273,15 @@ pub phase_has : (plan : BusPlan) (phase : ℕ) → IsPlan plan → phase < lengt
 phase_has plan phase planned less =
     let here = phase_follows plan phase planned less in
     let ids = phase_relids plan phase planned less in
-    let mine = within (first_of plan phase) (first_of plan phase + length (phase_of plan phase)) (first_of plan phase) here.page (phase_of plan phase) (omega arith) (omega arith) here.follows in
+    let mine = within (first_of plan phase) (first_of plan phase + lists_in (phase_of plan phase)) (first_of plan phase) here.page (phase_of plan phase) (omega arith) (omega arith) here.follows in
     record {
       fits = by_all IsOpening (phase_of plan phase) (All-get_or (λ os. All (λ p. IsOpening p) os) plan.phases phase [] less planned.fits);
       known = ids.known;
       relids = ids.distinct;
       handles = handles_distinct (first_of plan phase) here.page (phase_of plan phase) here.follows;
+      lists = spaced (first_of plan phase) here.page (phase_of plan phase) here.follows;
       not_before = λ j before. not_given_back plan j phase planned before less;
-      before_handles = all_weaker (λ p. (first_of plan phase ≤ p.gpadl) × (p.gpadl < first_of plan phase + length (phase_of plan phase))) (λ p. (vps : ℕ → ℕ) (relid : ℕ) → is_handle p.gpadl (guest_before vps plan phase relid).gpadl ≡ false)
+      before_handles = all_weaker (λ p. (first_of plan phase ≤ p.gpadl) × (p.gpadl + lists_of p ≤ first_of plan phase + lists_in (phase_of plan phase))) (λ p. (vps : ℕ → ℕ) (relid : ℕ) → is_handle p.gpadl (guest_before vps plan phase relid).gpadl ≡ false)
           (λ p b vps relid. let low = b.0 in not_low (first_of plan phase) p.gpadl (guest_before vps plan phase relid).gpadl (omega (arith, low)) (lows plan vps phase relid planned (omega (arith, less)))) (phase_of plan phase) mine;
     }
 
@@ -215,6 +294,7 @@ closing_has plan phase planned less =
       known = all_closing (λ p. p.relid ≤ offered_before plan (suc phase)) os has.known;
       relids = distinct_closing (λ p. p.relid) os has.relids;
       handles = distinct_closing (λ p. p.gpadl) os has.handles;
+      lists = all_weaker (λ p. AllByRecursion (λ q. q.gpadl ≢ p.gpadl → Apart p q) os) (λ p. AllByRecursion (λ q. q.gpadl ≢ p.gpadl → Apart p q) (in_closing_order os)) (λ p all. all_closing (λ q. q.gpadl ≢ p.gpadl → Apart p q) os all) (in_closing_order os) (all_closing (λ p. AllByRecursion (λ q. q.gpadl ≢ p.gpadl → Apart p q) os) os has.lists);
       not_before = λ j before. all_weaker (λ q. AllByRecursion (λ p. p.relid ≡ q.relid → ends_given_back q ≡ false) os) (λ q. AllByRecursion (λ p. p.relid ≡ q.relid → ends_given_back q ≡ false) (in_closing_order os)) (λ q all. all_closing (λ p. p.relid ≡ q.relid → ends_given_back q ≡ false) os all) (phase_of plan j) (has.not_before j before);
       before_handles = all_closing (λ p. (vps : ℕ → ℕ) (relid : ℕ) → is_handle p.gpadl (guest_before vps plan phase relid).gpadl ≡ false) os has.before_handles;
     }
@@ -227,6 +307,8 @@ pub record Facts (plan : BusPlan) (phase : ℕ) (done : List Opening) (o : Openi
   pub left_apart : AllByRecursion (λ p. p.relid ≢ o.relid) left
   pub done_handles : AllByRecursion (λ p. p.gpadl ≢ o.gpadl) done
   pub left_handles : AllByRecursion (λ p. p.gpadl ≢ o.gpadl) left
+  pub done_lists : AllByRecursion (λ p. Apart o p) done
+  pub left_lists : AllByRecursion (λ p. Apart o p) left
   pub not_before : (j : ℕ) → j < phase → AllByRecursion (λ q. q.relid ≡ o.relid → ends_given_back q ≡ false) (phase_of plan j)
   pub before_handles : (vps : ℕ → ℕ) (relid : ℕ) → is_handle o.gpadl (guest_before vps plan phase relid).gpadl ≡ false
 
@@ -234,6 +316,8 @@ facts_in : (plan : BusPlan) (phase : ℕ) (done : List Opening) (o : Opening) (l
 facts_in plan phase done o left has =
     let apart = distinct_mid (λ p. p.relid) done o left has.relids in
     let other = distinct_mid (λ p. p.gpadl) done o left has.handles in
+    let lists = mid_all (λ p. AllByRecursion (λ q. q.gpadl ≢ p.gpadl → Apart p q) (done ++ o ∷ left)) done o left has.lists in
+    let parts = cut_all (λ q. q.gpadl ≢ o.gpadl → Apart o q) done o left lists in
     record {
       fits = mid_all IsOpening done o left has.fits;
       known = mid_all (λ p. p.relid ≤ offered_before plan (suc phase)) done o left has.known;
@@ -241,9 +325,19 @@ facts_in plan phase done o left has =
       left_apart = apart.1;
       done_handles = other.0;
       left_handles = other.1;
+      done_lists = with_all (λ q. q.gpadl ≢ o.gpadl) (λ q. Apart o q) done other.0 parts.0;
+      left_lists = with_all (λ q. q.gpadl ≢ o.gpadl) (λ q. Apart o q) left other.1 parts.1;
       not_before = λ j less. all_weaker (λ q. AllByRecursion (λ p. p.relid ≡ q.relid → ends_given_back q ≡ false) (done ++ o ∷ left)) (λ q. q.relid ≡ o.relid → ends_given_back q ≡ false) (λ q all e. mid_all (λ p. p.relid ≡ q.relid → ends_given_back q ≡ false) done o left all (sym e)) (phase_of plan j) (has.not_before j less);
       before_handles = mid_all (λ p. (vps : ℕ → ℕ) (relid : ℕ) → is_handle p.gpadl (guest_before vps plan phase relid).gpadl ≡ false) done o left has.before_handles;
     }
+  where
+    cut_all : (P : Opening → Type 0) (done : List Opening) (o : Opening) (left : List Opening) → AllByRecursion P (done ++ o ∷ left) → AllByRecursion P done × AllByRecursion P left
+    cut_all P [] o left all = (tt, all.1)
+    cut_all P (p ∷ done) o left all = let rest = cut_all P done o left all.1 in ((all.0, rest.0), rest.1)
+
+    with_all : (P Q : Opening → Type 0) (os : List Opening) → AllByRecursion P os → AllByRecursion (λ q. P q → Q q) os → AllByRecursion Q os
+    with_all P Q [] p q = tt
+    with_all P Q (o ∷ os) p q = (q.0 p.0, with_all P Q os p.1 q.1)
 
 pub facts : (plan : BusPlan) (phase place : ℕ) (done : List Opening) (o : Opening) (left : List Opening) → IsPlan plan → At plan phase place done o left → Facts plan phase done o left
 facts plan phase place done o left planned at = facts_in plan phase done o left (subst (PhaseHas plan phase) at.phase_is (phase_has plan phase planned at.in_plan))
@@ -280,3 +374,18 @@ offered_here plan phase place done o left planned at =
     by_test {P = o.relid ≤ offered_for plan phase done o left} (is_later o)
     (λ e. let spot = sub_place (offered_before plan phase + 1) done o left e mine in let more = later_of_first o left o.dialed (is_sub o) refl refl e in omega (arith, spot, more))
     (λ e. let low = mid_all (λ p. is_later p ≡ false → p.relid ≤ length plan.kinds) done o left few e in omega (arith, low))
+
+-- behind a channel with buffers no sub-channels stand
+bare_at : (done : List Opening) (o : Opening) (left : List Opening) → Bare (done ++ o ∷ left) → o.buffers ≡ true → first_subs left ≡ []
+bare_at [] o left bare = bare.0
+bare_at (p ∷ done) o left bare = bare_at done o left bare.1
+
+pub none_first : (plan : BusPlan) (phase place : ℕ) (done : List Opening) (o : Opening) (left : List Opening) → IsPlan plan → At plan phase place done o left → o.buffers ≡ true → first_subs left ≡ []
+none_first plan phase place done o left planned at has = bare_at done o left (subst Bare at.phase_is (All-get_or (λ os. Bare os) plan.phases phase [] at.in_plan planned.bare)) has
+
+pub none_behind : (plan : BusPlan) (phase place : ℕ) (done : List Opening) (o : Opening) (left : List Opening) → IsPlan plan → At plan phase place done o left → o.buffers ≡ true → subs_next (o ∷ left) ≡ []
+none_behind plan phase place done o left planned at has = by_sub (is_sub o)
+  where
+    by_sub : (b : Bool) → (if b then [] else first_subs left) ≡ []
+    by_sub true = refl
+    by_sub false = none_first plan phase place done o left planned at has

@@ -5,11 +5,12 @@ use Rattle.std.proofs.lemmas.List.Concat.{flat_map-cons}
 use Rattle.vmbus_msg.specs.declared.msg.Msg.{Msg}
 use Rattle.gpadl.specs.Cut.{cut}
 use Rattle.control_model.specs.declared.opening.Opening.{Opening}
-use Rattle.control_model.specs.Plan.{BusPlan, subs_next, in_closing_order, phase_of, closing_of}
-use Rattle.control_model.specs.Messages.{pages_from, created, open_on, opened, offer_sub, close, teardown, torndown, rescind, release, farewell, farewell_taken}
-use Rattle.control_model.specs.Said.{dials, dial_offers, guest_lists, guest_opens, host_opens_all, guest_closes, host_closes, only_sub, guest_moves, host_moves, guest_in_phase, host_in_phase, from_3_0}
-use Rattle.control_model.specs.GuestAt.{guest_from, host_from, lists_dialed, opens_listed, answers_list, gives_sub, gives_one, takes_one, end_to_say, end_to_hear}
-use Rattle.control_model.specs.HostAt.{host_end_to_say, host_end_to_hear}
+use Rattle.control_model.specs.declared.buffer.Buffer.TheVariants.{Receive, Send}
+use Rattle.control_model.specs.Plan.{BusPlan, buffer_list, subs_next, in_closing_order, phase_of, closing_of}
+use Rattle.control_model.specs.Messages.{pages_from, created, open_on, opened, offer_sub, close, teardown, teardown_buffer, torndown, rescind, release, farewell, farewell_taken}
+use Rattle.control_model.specs.Said.{dials, dial_offers, guest_lists, guest_buffers, host_buffers, guest_opens, host_opens_all, guest_closes, host_closes, guest_moves, host_moves, guest_in_phase, host_in_phase, from_3_0}
+use Rattle.control_model.specs.GuestAt.{guest_from, host_from, lists_dialed, opens_listed, answers_list, closes_rings, torn_rings, empties_left, emptied_left, torn_left, gives_sub, gives_one, takes_one, end_to_say, end_to_hear}
+use Rattle.control_model.specs.HostAt.{closes_left, tears_left, host_end_to_say, host_end_to_hear}
 use Rattle.control_model.specs.Stand.{At, EndsAt}
 use Rattle.control_laws.proofs.NextOne.{guest_waits, guest_next_awaits, guest_sends, guest_next_sends, host_waits, host_next_awaits, host_sends, host_next_sends}
 use Rattle.control_laws.proofs.Plans.{done_more, ends_more}
@@ -39,7 +40,8 @@ left_behind plan phase place done o left at =
 pub lists_more : (o : Opening) (os : List Opening) (later : List Msg) → lists_dialed (o ∷ os) ++ later ≡ cut o.relid o.gpadl (pages_from o) ++ (opens_listed (o ∷ os) ++ later)
 lists_more o os later =
     let list : List Msg = cut o.relid o.gpadl (pages_from o) in
-    append_assoc (list ++ open_on o ∷ []) (flat_map guest_opens os) later ∙ append_assoc list (open_on o ∷ []) (flat_map guest_opens os ++ later)
+    let open_all : List Msg = open_on o ∷ guest_buffers o in
+    append_assoc (list ++ open_all) (flat_map guest_opens os) later ∙ append_assoc list open_all (flat_map guest_opens os ++ later) ∙ ap (λ xs. list ++ xs) (sym (append_assoc open_all (flat_map guest_opens os) later))
 
 pub dials_more : (o : Opening) (os : List Opening) (later : List Msg) → flat_map guest_opens (o ∷ os) ++ later ≡ dials o.dialed ++ (lists_dialed (o ∷ os) ++ later)
 dials_more o os later =
@@ -52,9 +54,9 @@ opens_more o os later none = dials_more o os later ∙ ap (λ d. dials d ++ (lis
 -- the host offers the channel of a service first
 pub answers_more : (o : Opening) (os : List Opening) (later : List Msg) → host_opens_all (o ∷ os) ++ later ≡ dial_offers o.relid o.dialed ++ (answers_list (o ∷ os) ++ later)
 answers_more o os later =
-    let both : List Msg = created o.relid o.gpadl ∷ opened o.relid o.relid ∷ [] in
+    let both : List Msg = created o.relid o.gpadl ∷ opened o.relid o.relid ∷ host_buffers o in
     let rest : List Msg = map offer_sub (subs_next (o ∷ os)) ++ host_opens_all os in
-    append_assoc (dial_offers o.relid o.dialed ++ both) rest later ∙ append_assoc (dial_offers o.relid o.dialed) both (rest ++ later)
+    append_assoc (dial_offers o.relid o.dialed ++ both) rest later ∙ append_assoc (dial_offers o.relid o.dialed) both (rest ++ later) ∙ ap (λ xs. dial_offers o.relid o.dialed ++ xs) (sym (append_assoc both rest later))
 
 pub answers_plain : (o : Opening) (os : List Opening) (later : List Msg) → o.dialed ≡ None → host_opens_all (o ∷ os) ++ later ≡ answers_list (o ∷ os) ++ later
 answers_plain o os later none = answers_more o os later ∙ ap (λ d. dial_offers o.relid d ++ (answers_list (o ∷ os) ++ later)) none
@@ -67,49 +69,56 @@ pub ends_behind : (plan : BusPlan) (phase place : ℕ) (done : List Opening) (o 
 ends_behind plan phase place done o left at =
     ends_left plan phase (suc place) (done ++ o ∷ []) left (ends_more plan phase place done o left at) (omega (arith, at.place_is, length-append done (o ∷ [])))
 
+-- what a side says of an opening at the end of its phase, where it is rescinded, and where it has buffers
+abbrev guest_closes_by : Opening → Bool → Bool → List Msg
+guest_closes_by o gone buffers = if gone then release o.relid ∷ [] else (if buffers then teardown_buffer o Send ∷ teardown_buffer o Receive ∷ [] else []) ++ closes_rings o
+
+abbrev host_closes_by : Opening → Bool → Bool → List Msg
+host_closes_by o gone buffers = if gone then rescind o.relid ∷ [] else (if buffers then torndown (buffer_list o Send) ∷ torndown (buffer_list o Receive) ∷ [] else []) ++ torn_rings o
+
+guest_left : (o : Opening) (left : List Opening) (b c : Bool) → o.rescinded ≡ b → o.buffers ≡ c → flat_map guest_closes (o ∷ left) ≡ guest_closes_by o b c ++ flat_map guest_closes left
+guest_left o left b c gone has = flat_map-cons guest_closes o left ∙ (λ i. guest_closes_by o (gone i) (has i) ++ flat_map guest_closes left)
+
+host_left : (o : Opening) (left : List Opening) (b c : Bool) → o.rescinded ≡ b → o.buffers ≡ c → flat_map host_closes (o ∷ left) ≡ host_closes_by o b c ++ flat_map host_closes left
+host_left o left b c gone has = flat_map-cons host_closes o left ∙ (λ i. host_closes_by o (gone i) (has i) ++ flat_map host_closes left)
+
 -- a host goes on with the end of a phase
-host_said_one : (plan : BusPlan) (phase place : ℕ) (done : List Opening) (o : Opening) (left : List Opening) (b : Bool) → o.rescinded ≡ b → EndsAt plan phase place done o left → flat_map host_closes (o ∷ left) ≡ host_sends o b ++ host_end_to_say (closing_of plan phase) (host_waits place b)
-host_said_one plan phase place done o left false is at = ap (flat_map host_closes) (sym (ends_left plan phase place done (o ∷ left) at.closing_is at.place_is))
-host_said_one plan phase place done o left true is at =
-    flat_map-cons host_closes o left ∙ ap (λ b. (if b then rescind o.relid ∷ [] else torndown o.gpadl ∷ only_sub o (rescind o.relid)) ++ flat_map host_closes left) is
-    ∙ ap (λ os. rescind o.relid ∷ flat_map host_closes os) (sym (ends_behind plan phase place done o left at))
+host_said_one : (plan : BusPlan) (phase place : ℕ) (done : List Opening) (o : Opening) (left : List Opening) (b c : Bool) → o.rescinded ≡ b → o.buffers ≡ c → EndsAt plan phase place done o left → flat_map host_closes (o ∷ left) ≡ host_sends o b ++ host_end_to_say (closing_of plan phase) (host_waits place b c)
+host_said_one plan phase place done o left true c is has at = host_left o left true c is has ∙ ap (λ os. rescind o.relid ∷ flat_map host_closes os) (sym (ends_behind plan phase place done o left at))
+host_said_one plan phase place done o left false true is has at = host_left o left false true is has ∙ ap (emptied_left Send) (sym (ends_left plan phase place done (o ∷ left) at.closing_is at.place_is))
+host_said_one plan phase place done o left false false is has at = host_left o left false false is has ∙ ap torn_left (sym (ends_left plan phase place done (o ∷ left) at.closing_is at.place_is))
 
 pub host_ends_said : (plan : BusPlan) (phase place : ℕ) (done left : List Opening) → phase < length plan.phases → closing_of plan phase ≡ done ++ left → place ≡ length done → flat_map host_closes left ≡ host_next_sends left ++ host_end_to_say (closing_of plan phase) (host_next_awaits place left)
 host_ends_said plan phase place done [] in_plan is at = refl
-host_ends_said plan phase place done (o ∷ left) in_plan is at = host_said_one plan phase place done o left o.rescinded refl (record { in_plan = in_plan; closing_is = is; place_is = at })
+host_ends_said plan phase place done (o ∷ left) in_plan is at = host_said_one plan phase place done o left o.rescinded o.buffers refl refl (record { in_plan = in_plan; closing_is = is; place_is = at })
 
-host_heard_one : (plan : BusPlan) (phase place : ℕ) (done : List Opening) (o : Opening) (left : List Opening) (b : Bool) → o.rescinded ≡ b → closing_of plan phase ≡ done ++ o ∷ left → place ≡ length done → flat_map guest_closes (o ∷ left) ≡ host_end_to_hear (closing_of plan phase) (host_waits place b)
-host_heard_one plan phase place done o left true gone is at =
-    flat_map-cons guest_closes o left ∙ ap (λ b. (if b then release o.relid ∷ [] else close o.relid ∷ teardown o ∷ only_sub o (release o.relid)) ++ flat_map guest_closes left) gone
-    ∙ ap gives_one (sym (ends_left plan phase place done (o ∷ left) is at))
-host_heard_one plan phase place done o left false closed is at = ap (flat_map guest_closes) (sym (ends_left plan phase place done (o ∷ left) is at))
+host_heard_one : (plan : BusPlan) (phase place : ℕ) (done : List Opening) (o : Opening) (left : List Opening) (b c : Bool) → o.rescinded ≡ b → o.buffers ≡ c → closing_of plan phase ≡ done ++ o ∷ left → place ≡ length done → flat_map guest_closes (o ∷ left) ≡ host_end_to_hear (closing_of plan phase) (host_waits place b c)
+host_heard_one plan phase place done o left true c gone has is at = guest_left o left true c gone has ∙ ap gives_one (sym (ends_left plan phase place done (o ∷ left) is at))
+host_heard_one plan phase place done o left false true closed has is at = guest_left o left false true closed has ∙ ap (tears_left Send) (sym (ends_left plan phase place done (o ∷ left) is at))
+host_heard_one plan phase place done o left false false closed has is at = guest_left o left false false closed has ∙ ap closes_left (sym (ends_left plan phase place done (o ∷ left) is at))
 
 pub host_ends_heard : (plan : BusPlan) (phase place : ℕ) (done left : List Opening) → closing_of plan phase ≡ done ++ left → place ≡ length done → flat_map guest_closes left ≡ host_end_to_hear (closing_of plan phase) (host_next_awaits place left)
 host_ends_heard plan phase place done [] is at = refl
-host_ends_heard plan phase place done (o ∷ left) is at = host_heard_one plan phase place done o left o.rescinded refl is at
+host_ends_heard plan phase place done (o ∷ left) is at = host_heard_one plan phase place done o left o.rescinded o.buffers refl refl is at
 
 -- a guest goes on with the end of a phase
-said_one : (plan : BusPlan) (phase place : ℕ) (done : List Opening) (o : Opening) (left : List Opening) (b : Bool) → o.rescinded ≡ b → EndsAt plan phase place done o left → flat_map guest_closes (o ∷ left) ≡ guest_sends o b ++ end_to_say (closing_of plan phase) (guest_waits place b)
-said_one plan phase place done o left true is at =
-    flat_map-cons guest_closes o left ∙ ap (λ b. (if b then release o.relid ∷ [] else close o.relid ∷ teardown o ∷ only_sub o (release o.relid)) ++ flat_map guest_closes left) is
-    ∙ ap gives_one (sym (ends_left plan phase place done (o ∷ left) at.closing_is at.place_is))
-said_one plan phase place done o left false is at =
-    flat_map-cons guest_closes o left ∙ ap (λ b. (if b then release o.relid ∷ [] else close o.relid ∷ teardown o ∷ only_sub o (release o.relid)) ++ flat_map guest_closes left) is
-    ∙ ap (λ os. close o.relid ∷ teardown o ∷ gives_sub os) (sym (ends_left plan phase place done (o ∷ left) at.closing_is at.place_is))
+said_one : (plan : BusPlan) (phase place : ℕ) (done : List Opening) (o : Opening) (left : List Opening) (b c : Bool) → o.rescinded ≡ b → o.buffers ≡ c → EndsAt plan phase place done o left → flat_map guest_closes (o ∷ left) ≡ guest_sends o b c ++ end_to_say (closing_of plan phase) (guest_waits place b c)
+said_one plan phase place done o left true c is has at = guest_left o left true c is has ∙ ap gives_one (sym (ends_left plan phase place done (o ∷ left) at.closing_is at.place_is))
+said_one plan phase place done o left false true is has at = guest_left o left false true is has ∙ ap (λ os. teardown_buffer o Send ∷ empties_left Send os) (sym (ends_left plan phase place done (o ∷ left) at.closing_is at.place_is))
+said_one plan phase place done o left false false is has at = guest_left o left false false is has ∙ ap (λ os. close o.relid ∷ teardown o ∷ gives_sub os) (sym (ends_left plan phase place done (o ∷ left) at.closing_is at.place_is))
 
 pub ends_said : (plan : BusPlan) (phase place : ℕ) (done left : List Opening) → phase < length plan.phases → closing_of plan phase ≡ done ++ left → place ≡ length done → flat_map guest_closes left ≡ guest_next_sends left ++ end_to_say (closing_of plan phase) (guest_next_awaits place left)
 ends_said plan phase place done [] in_plan is at = refl
-ends_said plan phase place done (o ∷ left) in_plan is at = said_one plan phase place done o left o.rescinded refl (record { in_plan = in_plan; closing_is = is; place_is = at })
+ends_said plan phase place done (o ∷ left) in_plan is at = said_one plan phase place done o left o.rescinded o.buffers refl refl (record { in_plan = in_plan; closing_is = is; place_is = at })
 
-heard_one : (plan : BusPlan) (phase place : ℕ) (done : List Opening) (o : Opening) (left : List Opening) (b : Bool) → o.rescinded ≡ b → closing_of plan phase ≡ done ++ o ∷ left → place ≡ length done → flat_map host_closes (o ∷ left) ≡ end_to_hear (closing_of plan phase) (guest_waits place b)
-heard_one plan phase place done o left true gone is at =
-    flat_map-cons host_closes o left ∙ ap (λ b. (if b then rescind o.relid ∷ [] else torndown o.gpadl ∷ only_sub o (rescind o.relid)) ++ flat_map host_closes left) gone
-    ∙ ap takes_one (sym (ends_left plan phase place done (o ∷ left) is at))
-heard_one plan phase place done o left false closed is at = ap (flat_map host_closes) (sym (ends_left plan phase place done (o ∷ left) is at))
+heard_one : (plan : BusPlan) (phase place : ℕ) (done : List Opening) (o : Opening) (left : List Opening) (b c : Bool) → o.rescinded ≡ b → o.buffers ≡ c → closing_of plan phase ≡ done ++ o ∷ left → place ≡ length done → flat_map host_closes (o ∷ left) ≡ end_to_hear (closing_of plan phase) (guest_waits place b c)
+heard_one plan phase place done o left true c gone has is at = host_left o left true c gone has ∙ ap takes_one (sym (ends_left plan phase place done (o ∷ left) is at))
+heard_one plan phase place done o left false true closed has is at = host_left o left false true closed has ∙ ap (emptied_left Send) (sym (ends_left plan phase place done (o ∷ left) is at))
+heard_one plan phase place done o left false false closed has is at = host_left o left false false closed has ∙ ap torn_left (sym (ends_left plan phase place done (o ∷ left) is at))
 
 pub ends_heard : (plan : BusPlan) (phase place : ℕ) (done left : List Opening) → closing_of plan phase ≡ done ++ left → place ≡ length done → flat_map host_closes left ≡ end_to_hear (closing_of plan phase) (guest_next_awaits place left)
 ends_heard plan phase place done [] is at = refl
-ends_heard plan phase place done (o ∷ left) is at = heard_one plan phase place done o left o.rescinded refl is at
+ends_heard plan phase place done (o ∷ left) is at = heard_one plan phase place done o left o.rescinded o.buffers refl refl is at
 
 -- what is said and heard from a phase on
 pub guest_from_phase : (plan : BusPlan) (phase : ℕ) → phase < length plan.phases

@@ -5,7 +5,7 @@ use Rattle.vmbus_msg.specs.declared.msg.Msg.{Msg}
 use Rattle.control_model.specs.declared.opening.Opening.{Opening}
 use Rattle.control_model.specs.Plan.{BusPlan, is_sub, is_later, all_openings}
 use Rattle.control_model.specs.Messages.{close, teardown, torndown, rescind, release}
-use Rattle.control_model.specs.Said.{guest_opens, host_opens, guest_moves, host_moves, guest_in_phase, host_in_phase, channel_count}
+use Rattle.control_model.specs.Said.{guest_empties, host_empties, guest_opens, host_opens, guest_moves, host_moves, guest_in_phase, host_in_phase, channel_count}
 
 -- none of these is of a sub-channel
 abbrev pub NoSubs : List Opening → Type 0
@@ -15,12 +15,12 @@ NoSubs os = AllByRecursion (λ o. is_sub o ≡ false) os
 abbrev pub NoLater : List Opening → Type 0
 NoLater os = AllByRecursion (λ o. is_later o ≡ false) os
 
--- a channel that is rescinded is taken back and given back, each other one is closed and its page list torn down
+-- a channel that is rescinded is taken back and given back; of each other one the page lists of its buffers are torn down, it is closed, and its own page list torn down
 abbrev pub guest_closes_one : Opening → List Msg
-guest_closes_one o = if o.rescinded then release o.relid ∷ [] else close o.relid ∷ teardown o ∷ []
+guest_closes_one o = if o.rescinded then release o.relid ∷ [] else guest_empties o ++ (close o.relid ∷ teardown o ∷ [])
 
 abbrev pub host_closes_one : Opening → List Msg
-host_closes_one o = if o.rescinded then rescind o.relid ∷ [] else torndown o.gpadl ∷ []
+host_closes_one o = if o.rescinded then rescind o.relid ∷ [] else host_empties o ++ (torndown o.gpadl ∷ [])
 
 -- a phase opens its channels at its start and moves them, and closes them or gives them back at its end, all in order of offer
 abbrev pub PlainGuest : Type 0

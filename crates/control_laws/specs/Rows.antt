@@ -3,20 +3,21 @@ use Rattle.std.specs.Prelude.{◌≡◌, ℕ, ◌+◌, ◌*◌, Bool, true, fals
 use Rattle.std.specs.List.{range_with_len}
 use Rattle.contact.specs.Versions.{version}
 use Rattle.contact.specs.Classes.{offer}
-use Rattle.contact.specs.declared.kind.Kind.TheVariants.{Beat, Disk}
+use Rattle.contact.specs.declared.kind.Kind.TheVariants.{Beat, Disk, Net}
 use Rattle.chan_state.specs.declared.state.State.TheVariants.{Offered, Closed, Released}
 use Rattle.vmbus_msg.specs.declared.msg.Msg.{Msg}
 use Rattle.gpadl.specs.Cut.{header, cut}
 use Rattle.control_model.specs.declared.opening.Opening.{Opening}
+use Rattle.control_model.specs.declared.buffer.Buffer.TheVariants.{Receive, Send}
 use Rattle.control_model.specs.Plan.{BusPlan, first_gpadl}
-use Rattle.control_model.specs.Messages.{propose, respond, request, delivered, connect, offer_service, created, open_on, opened, modify, modified, close, teardown, torndown, rescind, release, farewell, farewell_taken}
+use Rattle.control_model.specs.Messages.{propose, respond, request, delivered, connect, offer_service, created, open_on, opened, modify, modified, close, teardown, teardown_buffer, torndown, rescind, release, farewell, farewell_taken}
 use Rattle.control_model.specs.Sock.{dialed_at, sock_plan}
 use Rattle.control_model.specs.Said.{said_by_guest, said_by_host, at_end}
 use Rattle.control_laws.specs.Over.{vps_at_end}
 
 -- a disk and a heartbeat are offered; one phase opens the disk, with rings of one data page
 abbrev pub disk_of : Opening
-disk_of = record { relid = 1; sub = 0; ring_pages = 1; gpadl = first_gpadl; first_page = 0; rescinded = false; vp = None; dialed = None }
+disk_of = record { relid = 1; sub = 0; ring_pages = 1; gpadl = first_gpadl; first_page = 0; rescinded = false; vp = None; dialed = None; buffers = false }
 
 abbrev pub small_plan : ℕ → ℕ → BusPlan
 small_plan guest host = record { guest = record { 0 = guest }; host = record { 0 = host }; kinds = Disk ∷ Beat ∷ []; phases = (disk_of ∷ []) ∷ [] }
@@ -39,10 +40,10 @@ HostSaysNone = said_by_host (small_plan (version 2 4) (version 5 2)) ≡ respond
 
 -- two disks, of which the host rescinds the first one, or the second one, at the end of the phase; the other one is closed
 abbrev pub first_of : Bool → Opening
-first_of rescinded = record { relid = 1; sub = 0; ring_pages = 1; gpadl = first_gpadl; first_page = 0; rescinded = rescinded; vp = None; dialed = None }
+first_of rescinded = record { relid = 1; sub = 0; ring_pages = 1; gpadl = first_gpadl; first_page = 0; rescinded = rescinded; vp = None; dialed = None; buffers = false }
 
 abbrev pub second_of : Bool → Opening
-second_of rescinded = record { relid = 2; sub = 0; ring_pages = 1; gpadl = first_gpadl + 1; first_page = 4; rescinded = rescinded; vp = None; dialed = None }
+second_of rescinded = record { relid = 2; sub = 0; ring_pages = 1; gpadl = first_gpadl + 1; first_page = 4; rescinded = rescinded; vp = None; dialed = None; buffers = false }
 
 abbrev pub mixed_plan : Bool → BusPlan
 mixed_plan first = record { guest = record { 0 = version 5 2 }; host = record { 0 = version 5 2 }; kinds = Disk ∷ Disk ∷ []; phases = (first_of first ∷ second_of (not first) ∷ []) ∷ [] }
@@ -67,7 +68,7 @@ HostTakesSecond = said_by_host (mixed_plan false)
 
 -- a disk with two sub-channels and a heartbeat are offered; a phase opens the disk, which is closed at its end, or rescinded
 abbrev pub seat_of : Bool → ℕ → ℕ → ℕ → Opening
-seat_of rescinded relid sub turn = record { relid = relid; sub = sub; ring_pages = 1; gpadl = first_gpadl + turn; first_page = 4 * turn; rescinded = rescinded; vp = None; dialed = None }
+seat_of rescinded relid sub turn = record { relid = relid; sub = sub; ring_pages = 1; gpadl = first_gpadl + turn; first_page = 4 * turn; rescinded = rescinded; vp = None; dialed = None; buffers = false }
 
 abbrev pub subs_plan : Bool → BusPlan
 subs_plan rescinded = record {
@@ -110,7 +111,7 @@ EndStates = (at_end (mixed_plan true) ≡ Released ∷ Closed ∷ []) × (at_end
 
 -- a disk and a heartbeat, both opened in a phase that moves the one to processor 5 and the other to processor 3
 abbrev pub moved_of : ℕ → ℕ → Option ℕ → Opening
-moved_of relid place vp = record { relid = relid; sub = 0; ring_pages = 1; gpadl = first_gpadl + place; first_page = 4 * place; rescinded = false; vp = vp; dialed = None }
+moved_of relid place vp = record { relid = relid; sub = 0; ring_pages = 1; gpadl = first_gpadl + place; first_page = 4 * place; rescinded = false; vp = vp; dialed = None; buffers = false }
 
 abbrev pub moving_plan : ℕ → ℕ → BusPlan
 moving_plan guest host = record { guest = record { 0 = guest }; host = record { 0 = host }; kinds = Disk ∷ Beat ∷ []; phases = (moved_of 1 0 (Some 5) ∷ moved_of 2 1 (Some 3) ∷ []) ∷ [] }
@@ -143,6 +144,25 @@ twice_moving guest = record { guest = record { 0 = guest }; host = record { 0 = 
 
 abbrev pub EndVps : Type 0
 EndVps = (vps_at_end (twice_moving (version 4 1)) ≡ 7 ∷ 3 ∷ []) × (vps_at_end (twice_moving (version 4 0)) ≡ 0 ∷ 0 ∷ [])
+
+-- two networks, of which the host rescinds the second one at the end of the phase: each has the lists of its buffers behind its rings', and those of the first one are torn down before it is closed, the send buffer's first
+abbrev pub net_of : Bool → ℕ → ℕ → Opening
+net_of rescinded relid turn = record { relid = relid; sub = 0; ring_pages = 1; gpadl = first_gpadl + 3 * turn; first_page = 132 * turn; rescinded = rescinded; vp = None; dialed = None; buffers = true }
+
+abbrev pub nets_plan : BusPlan
+nets_plan = record { guest = record { 0 = version 5 2 }; host = record { 0 = version 5 2 }; kinds = Net ∷ Net ∷ []; phases = (net_of false 1 0 ∷ net_of true 2 1 ∷ []) ∷ [] }
+
+abbrev pub GuestFills : Type 0
+GuestFills = said_by_guest nets_plan
+    ≡ propose (version 5 2) ∷ request ∷ header 1 first_gpadl 0 (1 ∷ 2 ∷ 3 ∷ []) ∷ open_on (net_of false 1 0) ∷ (cut 1 (first_gpadl + 1) (range_with_len 4 64) ++ (cut 1 (first_gpadl + 2) (range_with_len 68 64)
+    ++ (header 2 (first_gpadl + 3) 132 (133 ∷ 134 ∷ 135 ∷ []) ∷ open_on (net_of true 2 1) ∷ (cut 2 (first_gpadl + 4) (range_with_len 136 64) ++ (cut 2 (first_gpadl + 5) (range_with_len 200 64)
+    ++ (teardown_buffer (net_of false 1 0) Send ∷ teardown_buffer (net_of false 1 0) Receive ∷ close 1 ∷ teardown (net_of false 1 0) ∷ release 2 ∷ farewell ∷ []))))))
+
+abbrev pub HostFills : Type 0
+HostFills = said_by_host nets_plan
+    ≡ respond 1 ∷ offer Net 1 0 ∷ offer Net 2 0 ∷ delivered ∷ created 1 first_gpadl ∷ opened 1 1 ∷ created 1 (first_gpadl + 1) ∷ created 1 (first_gpadl + 2)
+    ∷ created 2 (first_gpadl + 3) ∷ opened 2 2 ∷ created 2 (first_gpadl + 4) ∷ created 2 (first_gpadl + 5)
+    ∷ torndown (first_gpadl + 2) ∷ torndown (first_gpadl + 1) ∷ torndown first_gpadl ∷ rescind 2 ∷ farewell_taken ∷ []
 
 -- a socket's: no device is offered, the guest asks for the service at the port, and the channel is rescinded
 abbrev pub GuestDials : Type 0

@@ -3,7 +3,7 @@
 ghost use Rattle.control_laws.specs.Sides.{NewOnesStand, GuestStarts, HostStarts, GuestHears, HostHears, GuestFronts, HostFronts, GuestIsCut, HostIsCut, BothOver};
 ghost use Rattle.control_laws.specs.Laws.{NewOnesAgree, BothBegin, HostGoesOn, GuestGoesOn, BothDone, FewOnTheirWay, EndsWell, EndTellsEach, RescindedAreReleased, RescindedOnce, SubsAreReleased, SubsOnce, ServicesOnce, EndsAtLower};
 ghost use Rattle.control_laws.specs.Plain.{PlainGuest, PlainHost, PlainCount};
-ghost use Rattle.control_laws.specs.Rows.{GuestSays, HostSays, GuestSaysNone, HostSaysNone, GuestGivesFirst, HostTakesFirst, GuestGivesSecond, HostTakesSecond, GuestClosesSubs, HostClosesSubs, GuestGivesSubs, HostTakesSubs, EndStates, SubStates, GuestMoves, HostAnswers, EndVps, GuestDials, HostOffersService, SockState};
+ghost use Rattle.control_laws.specs.Rows.{GuestSays, HostSays, GuestSaysNone, HostSaysNone, GuestGivesFirst, HostTakesFirst, GuestGivesSecond, HostTakesSecond, GuestClosesSubs, HostClosesSubs, GuestGivesSubs, HostTakesSubs, EndStates, SubStates, GuestMoves, HostAnswers, EndVps, GuestFills, HostFills, GuestDials, HostOffersService, SockState};
 
 /// A side that was made from a plan stands at the start.
 pub fn new_ones_stand()
@@ -141,7 +141,8 @@ pub fn ends_at_lower()
 /// farewell, which isn't said below 3.0; and of two channels, one that is rescinded and one that is
 /// closed at the end of a phase, in both orders, and how they stand then; and of a disk with two
 /// sub-channels that is closed at the end of a phase, or rescinded; and of two channels that are moved to
-/// other processors, which isn't said below 4.1 and isn't answered below 5.3; and over the plan of a
+/// other processors, which isn't said below 4.1 and isn't answered below 5.3; and of two networks with
+/// the page lists of their buffers, one that is closed and one that is rescinded; and over the plan of a
 /// socket, whose channel the guest asks for and gives back.
 pub fn say_so()
     ensures guest { GuestSays }
@@ -161,6 +162,8 @@ pub fn say_so()
     ensures guest_moves { GuestMoves }
     ensures host_answers { HostAnswers }
     ensures vps { EndVps }
+    ensures guest_fills { GuestFills }
+    ensures host_fills { HostFills }
     ensures guest_dials { GuestDials }
     ensures host_offers { HostOffersService }
     ensures sock_state { SockState }

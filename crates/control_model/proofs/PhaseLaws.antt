@@ -21,7 +21,7 @@ use Rattle.control_model.specs.declared.planning.Fate.{Fate}
 use Rattle.control_model.specs.declared.planning.Next.{Next}
 use Rattle.control_model.specs.declared.planning.Served.{Served}
 use Rattle.control_model.specs.Plan.{first_gpadl}
-use Rattle.control_model.specs.Openings.{openings_from, pages_in, numbered, fate_of}
+use Rattle.control_model.specs.Openings.{openings_from, lists_in, pages_in, numbered, fate_of}
 use Rattle.control_model.specs.Dealing.{served_of, speaks_to, ends, ended_before, rescinded_in, vp_by, vp_in, fate_in, opens, opens_one, size_in, no_device, rest_of}
 use Rattle.control_model.proofs.SubLaws.{by_test}
 
@@ -133,7 +133,7 @@ pub phase_on : (lines : List Line) (specs : List DeviceSpec) (devices : List Ser
     → rest_of lines start ≡ slice_range lines start end ∷ rest_of lines (end + 1)
     → ((device : ℕ) → list_any (λ l. ends device l.what) (take (end + 1) lines) ≡ list_any (λ l. ends device l.what) (take end lines))
     → os ≡ openings_from (size_in devices) (fate_in (slice_range lines start end)) next.gpadl next.page (opened_from (opens devices (slice_range lines start end) start) 0 next.relid specs)
-    → next'.gpadl ≡ next.gpadl + length (opened_from (opens devices (slice_range lines start end) start) 0 next.relid specs)
+    → next'.gpadl ≡ next.gpadl + lists_in (opened_from (opens devices (slice_range lines start end) start) 0 next.relid specs)
     → next'.page ≡ next.page + pages_in (size_in devices) (opened_from (opens devices (slice_range lines start end) start) 0 next.relid specs)
     → next'.relid ≡ next.relid + length (others (opened_from (opens devices (slice_range lines start end) start) 0 next.relid specs))
     → SoFar lines devices (end + 1) (made ++ os ∷ []) next'
@@ -147,7 +147,7 @@ phase_on lines specs devices start end made next next' os specs_are count table 
     let rest : ℕ → List Phase = λ r. left lines (end + 1) (so_far.number + 1) r (so_far.earlier ++ part) in
     let meant_fate : ℕ → Fate = λ device. fate_of device part in
     let one : openings_from S meant_fate next.gpadl next.page meant ≡ os = (λ i. openings_from S (λ device. fate_same device part i) next.gpadl next.page (same i)) ∙ sym is in
-    let g : next.gpadl + length meant ≡ next'.gpadl = ap (λ (cs : List PhaseOpening). next.gpadl + length cs) same ∙ sym gpadl in
+    let g : next.gpadl + lists_in meant ≡ next'.gpadl = ap (λ (cs : List PhaseOpening). next.gpadl + lists_in cs) same ∙ sym gpadl in
     let p : next.page + pages_in S meant ≡ next'.page = ap (λ (cs : List PhaseOpening). next.page + pages_in S cs) same ∙ sym page in
     let r : later ≡ next'.relid = ap (λ (cs : List PhaseOpening). next.relid + length (others cs)) same ∙ sym relid in
     let here : numbered S next.gpadl next.page (left lines start so_far.number next.relid so_far.earlier) ≡ os ∷ numbered S next'.gpadl next'.page (rest next'.relid) =

@@ -44,6 +44,7 @@ range_more a (suc n) =
     let last : (a + 1) + n ≡ a + suc n = omega arith in
     ap (range_with_len a) one ∙ ap (λ xs. a ∷ xs) (range_more (a + 1) n) ∙ ap (λ k. a ∷ (range_with_len (a + 1) n ++ k ∷ [])) last
 
+-- a list of 54 pages at most has a header and a body, and one of 82 at most has a body more
 nothing_past : (xs : List ℕ) → length xs ≤ 54 → length (take 28 (drop 28 (drop 26 xs))) ≡ 0
 nothing_past xs few =
     let a = length-take 28 (drop 28 (drop 26 xs)) in
@@ -51,7 +52,6 @@ nothing_past xs few =
     let c = length-drop 26 xs in
     omega (arith, a, b, c, few)
 
--- a list of 54 pages at most has a header and a body
 pub messages_few : (relid gpadl : ℕ) (pages : List ℕ) (ms : List Msg) → length pages ≤ 54 → AreMessagesOf relid gpadl pages ms → length ms ≤ 2
 messages_few relid gpadl pages [] few are = omega arith
 messages_few relid gpadl pages (m ∷ []) few are = omega arith
@@ -61,3 +61,22 @@ messages_few relid gpadl pages (m ∷ (n ∷ (GpadlBody b ∷ ms))) few are =
     let none : length b.frames ≡ 0 = ap length are.1.1.0.3 ∙ nothing_past pages few in
     absurd (omega (arith, some, none))
 messages_few relid gpadl pages (m ∷ (n ∷ (_ ∷ ms))) few are = absurd are.1.1.0
+
+nothing_more : (xs : List ℕ) → length xs ≤ 82 → length (take 28 (drop 28 (drop 28 (drop 26 xs)))) ≡ 0
+nothing_more xs few =
+    let a = length-take 28 (drop 28 (drop 28 (drop 26 xs))) in
+    let b = length-drop 28 (drop 28 (drop 26 xs)) in
+    let c = length-drop 28 (drop 26 xs) in
+    let d = length-drop 26 xs in
+    omega (arith, a, b, c, d, few)
+
+pub messages_three : (relid gpadl : ℕ) (pages : List ℕ) (ms : List Msg) → length pages ≤ 82 → AreMessagesOf relid gpadl pages ms → length ms ≤ 3
+messages_three relid gpadl pages [] few are = omega arith
+messages_three relid gpadl pages (m ∷ []) few are = omega arith
+messages_three relid gpadl pages (m ∷ (n ∷ [])) few are = omega arith
+messages_three relid gpadl pages (m ∷ (n ∷ (l ∷ []))) few are = omega arith
+messages_three relid gpadl pages (m ∷ (n ∷ (l ∷ (GpadlBody d ∷ ms)))) few are =
+    let some = d.in_form.0 in
+    let none : length d.frames ≡ 0 = ap length are.1.1.1.0.3 ∙ nothing_more pages few in
+    absurd (omega (arith, some, none))
+messages_three relid gpadl pages (m ∷ (n ∷ (l ∷ (_ ∷ ms)))) few are = absurd are.1.1.1.0

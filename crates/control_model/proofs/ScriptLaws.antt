@@ -29,11 +29,11 @@ use Rattle.control_model.specs.declared.planning.Served.{Served}
 use Rattle.control_model.specs.declared.planning.Fate.{Fate}
 use Rattle.control_model.specs.declared.opening.Opening.{Opening}
 use Rattle.control_model.specs.Dealing.{served_of, size_in, no_device, HasSizes}
-use Rattle.control_model.specs.Plan.{BusPlan, IsPlan, IsOpening, Rising, Follows, OpensAgain, RescindsEnd, is_sub, is_later, firsts as firsts_of, laters, HasPort, Seated, all_openings, first_gpadl, most_channels}
+use Rattle.control_model.specs.Plan.{BusPlan, IsPlan, IsOpening, Rising, Follows, OpensAgain, RescindsEnd, is_sub, is_later, firsts as firsts_of, laters, HasPort, Seated, Bare, all_openings, first_gpadl, most_channels}
 use Rattle.script_phases.specs.Agreed.{guest_in, host_in, guest_by, host_by, agreed_in}
-use Rattle.control_model.specs.Openings.{plan_of, openings_from, pages_in, numbered, fate_of}
+use Rattle.control_model.specs.Openings.{plan_of, openings_from, lists_in, pages_in, numbered, fate_of}
 use Rattle.control_model.proofs.SubLaws.{by_test, none_by, some_by}
-use Rattle.control_model.proofs.OpenedLaws.{IsSize, IsChannel, all_so, channels_are, channels_few, others_few, named, opening, many_from, each_from, fits_from, pages_few, follow_from, offered_from, seated_from, rising_from, subs_made, openings_same, pages_same}
+use Rattle.control_model.proofs.OpenedLaws.{IsSize, IsChannel, all_so, channels_are, channels_few, others_few, named, opening, many_from, each_from, fits_from, pages_few, lists_few_in, follow_from, offered_from, seated_from, bare_from, rising_from, subs_made, openings_same, pages_same}
 
 guest_right : (kinds : List DeviceSpec) (what : What) → IsRight kinds what → IsVersion (guest_by what).0
 guest_right kinds (IsContact guest host) right = right.0
@@ -134,9 +134,9 @@ no_more sizes v specs number from next gpadl page earlier lines (part ∷ ps) le
     let fates : ℕ → Fate = λ device. fate_of device part in
     let relid = next + length (others cs) in
     let are = channels_are p (length specs) next relid 0 next specs (omega arith) (omega arith) (omega arith) in
-    All-cons (λ os. All (Unharmed lines (length specs) from) os) (openings_from sizes fates gpadl page cs) (numbered sizes (gpadl + length cs) (page + pages_in sizes cs) (phases_from v specs (number + 1) relid (earlier ++ part) ps))
+    All-cons (λ os. All (Unharmed lines (length specs) from) os) (openings_from sizes fates gpadl page cs) (numbered sizes (gpadl + lists_in cs) (page + pages_in sizes cs) (phases_from v specs (number + 1) relid (earlier ++ part) ps))
     (each_from sizes fates (Unharmed lines (length specs) from) (IsChannel p (length specs) next relid) (λ c g q is. unharmed sizes fates p lines (length specs) from next relid g q c less (λ d e. within d (opened_not earlier part d e)) is) gpadl page cs are)
-    (no_more sizes v specs (number + 1) from relid (gpadl + length cs) (page + pages_in sizes cs) (earlier ++ part) lines ps (omega (arith, less)) (λ d e. within d (or_left (is_rescinded d earlier) (is_rescinded d part) (sym (said_more d earlier part) ∙ e))))
+    (no_more sizes v specs (number + 1) from relid (gpadl + lists_in cs) (page + pages_in sizes cs) (earlier ++ part) lines ps (omega (arith, less)) (λ d e. within d (or_left (is_rescinded d earlier) (is_rescinded d part) (sym (said_more d earlier part) ∙ e))))
 
 -- no later phase opens a channel that is rescinded: it would be a device's first one, whose device these lines rescind
 again_one : (p : ℕ → Bool) (part : List Line) (count low past : ℕ) (c : PhaseOpening) (o : Opening) → IsChannel p count low past c → count < low → low ≤ past → Unharmed part count past o → o.relid ≡ c.relid → is_rescinded c.device part ≡ false
@@ -161,45 +161,49 @@ pub record Phases (count gpadl page : ℕ) (phases : List (List Opening)) : Type
   pub offered : All (λ os. All (λ o. is_later o ≡ false → o.relid ≤ count) os) phases
   pub rising : All (λ os. Rising 1 (firsts_of os)) phases
   pub seated : All (λ os. Seated 0 os) phases
+  pub bare : All (λ os. Bare os) phases
   pub small : All (λ os. length os ≤ 16) phases
   pub follow : Follows gpadl page (all_openings phases)
   pub ends : RescindsEnd phases
 
 -- each of them opens 16 channels at most, and takes no more relids
-all_phases : (sizes : ℕ → ℕ) (v : ℕ) (specs : List DeviceSpec) (number next gpadl page : ℕ) (earlier : List Line) (ps : List (List Line)) → ((d : ℕ) → IsSize (sizes d)) → length specs ≤ 16 → sum_by channels_of specs ≤ 16 → length specs < next → next + 16 * length ps ≤ most_channels + 1 → page + 544 * length ps < 2 ^ 64
+all_phases : (sizes : ℕ → ℕ) (v : ℕ) (specs : List DeviceSpec) (number next gpadl page : ℕ) (earlier : List Line) (ps : List (List Line)) → ((d : ℕ) → IsSize (sizes d)) → length specs ≤ 16 → sum_by channels_of specs ≤ 16 → length specs < next → next + 16 * length ps ≤ most_channels + 1 → gpadl + 48 * length ps ≤ 2 ^ 32 → page + 2592 * length ps < 2 ^ 64
     → Phases (length specs) gpadl page (numbered sizes gpadl page (phases_from v specs number next earlier ps))
-all_phases sizes v specs number next gpadl page earlier [] sized few narrow over relids room = record {
+all_phases sizes v specs number next gpadl page earlier [] sized few narrow over relids fits room = record {
   fits = All-nil (λ os. All (λ o. IsOpening o) os);
   offered = All-nil (λ os. All (λ o. is_later o ≡ false → o.relid ≤ length specs) os);
   rising = All-nil (λ os. Rising 1 (firsts_of os));
   seated = All-nil (λ os. Seated 0 os);
+  bare = All-nil (λ os. Bare os);
   small = All-nil (λ os. length os ≤ 16);
   follow = tt;
   ends = tt;
 }
-all_phases sizes v specs number next gpadl page earlier (part ∷ ps) sized few narrow over relids room =
+all_phases sizes v specs number next gpadl page earlier (part ∷ ps) sized few narrow over relids fits room =
     let count = length specs in
     let p = is_opened earlier part in
     let cs = opened_from p 0 next specs in
     let fates : ℕ → Fate = λ device. fate_of device part in
     let some : length cs ≤ 16 = let h = channels_few p 0 next specs in omega (arith, h, narrow) in
     let fresh : length (others cs) ≤ 16 = let h = others_few cs in omega (arith, h, some) in
-    let pages : pages_in sizes cs ≤ 34 * length cs = pages_few sizes cs sized in
+    let pages : pages_in sizes cs ≤ 162 * length cs = pages_few sizes cs sized in
+    let lists = lists_few_in cs in
     let relid = next + length (others cs) in
     let are = channels_are p count next relid 0 next specs (omega arith) (omega arith) (omega arith) in
-    let rest = all_phases sizes v specs (number + 1) relid (gpadl + length cs) (page + pages_in sizes cs) (earlier ++ part) ps sized few narrow (omega (arith, over)) (omega (arith, relids, fresh)) (omega (arith, room, pages, some)) in
+    let rest = all_phases sizes v specs (number + 1) relid (gpadl + lists_in cs) (page + pages_in sizes cs) (earlier ++ part) ps sized few narrow (omega (arith, over)) (omega (arith, relids, fresh)) (omega (arith, fits, lists, some)) (omega (arith, room, pages, some)) in
     let here = openings_from sizes fates gpadl page cs in
-    let later = numbered sizes (gpadl + length cs) (page + pages_in sizes cs) (phases_from v specs (number + 1) relid (earlier ++ part) ps) in
+    let later = numbered sizes (gpadl + lists_in cs) (page + pages_in sizes cs) (phases_from v specs (number + 1) relid (earlier ++ part) ps) in
     let all_named = all_so (IsChannel p count next relid) (λ c. (1 ≤ c.relid) × (c.relid ≤ most_channels)) (λ c is. named p count next relid c is few (omega (arith, over)) (omega (arith, relids, fresh))) cs are in
     record {
-      fits = All-cons (λ os. All (λ o. IsOpening o) os) here later (fits_from sizes fates gpadl page cs sized all_named (omega (arith, room, some))) rest.fits;
+      fits = All-cons (λ os. All (λ o. IsOpening o) os) here later (fits_from sizes fates gpadl page cs sized all_named (omega (arith, fits, some)) (omega (arith, room, some))) rest.fits;
       offered = All-cons (λ os. All (λ o. is_later o ≡ false → o.relid ≤ count) os) here later (offered_from sizes fates p count next relid gpadl page cs are) rest.offered;
       rising = All-cons (λ os. Rising 1 (firsts_of os)) here later (rising_from sizes fates p gpadl page 0 next specs) rest.rising;
       seated = All-cons (λ os. Seated 0 os) here later (seated_from sizes fates p 0 gpadl page 0 next specs) rest.seated;
+      bare = All-cons (λ os. Bare os) here later (bare_from sizes fates p gpadl page 0 next specs) rest.bare;
       small = All-cons (λ os. length os ≤ 16) here later (let many = many_from sizes fates gpadl page cs in omega (arith, many, some)) rest.small;
       follow = follow_from sizes fates gpadl page cs (all_openings later) rest.follow;
       ends = (
-        none_opened_again sizes p part count next relid gpadl page cs later are over (omega arith) (no_more sizes v specs (number + 1) relid relid (gpadl + length cs) (page + pages_in sizes cs) (earlier ++ part) part ps (omega arith) (λ d. later_rescinds earlier part d)),
+        none_opened_again sizes p part count next relid gpadl page cs later are over (omega arith) (no_more sizes v specs (number + 1) relid relid (gpadl + lists_in cs) (page + pages_in sizes cs) (earlier ++ part) part ps (omega arith) (λ d. later_rescinds earlier part d)),
         rest.ends,
       );
     }
@@ -210,9 +214,9 @@ subs_later sizes gpadl page [] = refl
 subs_later sizes gpadl page (p ∷ phases) =
     let fates : ℕ → Fate = λ device. fate_of device p.part in
     let here = openings_from sizes fates gpadl page p.opened in
-    let later = all_openings (numbered sizes (gpadl + length p.opened) (page + pages_in sizes p.opened) phases) in
+    let later = all_openings (numbered sizes (gpadl + lists_in p.opened) (page + pages_in sizes p.opened) phases) in
     let mine = subs_made sizes fates gpadl page p.opened in
-    let rest = subs_later sizes (gpadl + length p.opened) (page + pages_in sizes p.opened) phases in
+    let rest = subs_later sizes (gpadl + lists_in p.opened) (page + pages_in sizes p.opened) phases in
     ap (map (λ (x : Opening). x.relid)) (filter-append is_later here later) ∙ map-append (λ (x : Opening). x.relid) (laters here) (laters later)
     ∙ (λ i. mine i ++ rest i) ∙ sym (map-append (λ (x : PhaseOpening). x.relid) (others p.opened) (flat_map (λ p. others p.opened) phases))
 
@@ -237,7 +241,7 @@ parts_count (x ∷ lines) =
 
 numbered_length : (sizes : ℕ → ℕ) (gpadl page : ℕ) (phases : List Phase) → length (numbered sizes gpadl page phases) ≡ length phases
 numbered_length sizes gpadl page [] = refl
-numbered_length sizes gpadl page (p ∷ phases) = ap (λ n. suc n) (numbered_length sizes (gpadl + length p.opened) (page + pages_in sizes p.opened) phases)
+numbered_length sizes gpadl page (p ∷ phases) = ap (λ n. suc n) (numbered_length sizes (gpadl + lists_in p.opened) (page + pages_in sizes p.opened) phases)
 
 opened_length : (v : ℕ) (specs : List DeviceSpec) (number next : ℕ) (earlier : List Line) (ps : List (List Line)) → length (phases_from v specs number next earlier ps) ≡ length ps
 opened_length v specs number next earlier [] = refl
@@ -268,7 +272,7 @@ plan_is lines script =
     let each : length (map (λ (spec : DeviceSpec). offered_kind (kind_of spec)) kinds) ≡ count = length-map kinds (λ (spec : DeviceSpec). offered_kind (kind_of spec)) in
     let many = parts_count lines in
     let long = phases_are lines in
-    let phases = all_phases sizes (agreed_in lines) kinds 0 (count + 1) first_gpadl 0 [] (parts lines) (λ d. size_of kinds d lines script.right) script.few script.channels (omega arith) (omega (arith, many.1, script.short, script.few)) (omega (arith, many.1, script.short)) in
+    let phases = all_phases sizes (agreed_in lines) kinds 0 (count + 1) first_gpadl 0 [] (parts lines) (λ d. size_of kinds d lines script.right) script.few script.channels (omega arith) (omega (arith, many.1, script.short, script.few)) (omega (arith, many.1, script.short)) (omega (arith, many.1, script.short)) in
     record {
       guest = guest_version kinds lines script.right;
       host = host_version kinds lines script.right;
@@ -279,6 +283,7 @@ plan_is lines script =
       fits = phases.fits;
       small = phases.small;
       seated = phases.seated;
+      bare = phases.bare;
       offered = subst (λ n. All (λ os. All (λ o. is_later o ≡ false → o.relid ≤ n) os) (plan_of lines).phases) (sym each) phases.offered;
       rising = phases.rising;
       later = subst (λ n. map (λ (o : Opening). o.relid) (laters (all_openings (plan_of lines).phases)) ≡ range_with_len (n + 1) (length (laters (all_openings (plan_of lines).phases)))) (sym each) (later_relids lines sizes);
@@ -300,9 +305,9 @@ numbered_same s t v specs number next gpadl page earlier (part ∷ ps) same =
     let here : openings_from s fates gpadl page cs ≡ openings_from t fates gpadl page cs = openings_same s t fates gpadl page cs each in
     let pages : pages_in s cs ≡ pages_in t cs = pages_same s t cs each in
     let rest = phases_from v specs (number + 1) relid (earlier ++ part) ps in
-    ap (λ os. os ∷ numbered s (gpadl + length cs) (page + pages_in s cs) rest) here
-    ∙ (ap (λ k. openings_from t fates gpadl page cs ∷ numbered s (gpadl + length cs) (page + k) rest) pages
-    ∙ ap (λ l. openings_from t fates gpadl page cs ∷ l) (numbered_same s t v specs (number + 1) relid (gpadl + length cs) (page + pages_in t cs) (earlier ++ part) ps same))
+    ap (λ os. os ∷ numbered s (gpadl + lists_in cs) (page + pages_in s cs) rest) here
+    ∙ (ap (λ k. openings_from t fates gpadl page cs ∷ numbered s (gpadl + lists_in cs) (page + k) rest) pages
+    ∙ ap (λ l. openings_from t fates gpadl page cs ∷ l) (numbered_same s t v specs (number + 1) relid (gpadl + lists_in cs) (page + pages_in t cs) (earlier ++ part) ps same))
 
 -- the table of devices
 pub table_item : (lines : List Line) (devices : List Served) (count d : ℕ) (e : Served) → devices ≡ map (served_of lines) (range_with_len 0 count) → d < count → get_or devices d e ≡ served_of lines d

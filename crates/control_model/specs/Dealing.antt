@@ -9,7 +9,7 @@ use Rattle.script_lines.specs.Lines.{said}
 use Rattle.script_lines.specs.Parts.{parts, ring_pages_of, rescinds, shuts}
 use Rattle.script_phases.specs.Says.{heard_by}
 use Rattle.script_phases.specs.Openings.{Opening as PhaseOpening, channels_from, others}
-use Rattle.control_model.specs.Openings.{openings_from, pages_in}
+use Rattle.control_model.specs.Openings.{openings_from, lists_in, pages_in}
 use Rattle.control_model.specs.declared.planning.Served.{Served}
 use Rattle.control_model.specs.declared.planning.Next.{Next}
 use Rattle.control_model.specs.declared.planning.Fate.{Fate}
@@ -75,7 +75,7 @@ HasSizes devices = All (λ d. (1 ≤ d.ring_pages) × (d.ring_pages ≤ 16)) dev
 -- these channels of a device were opened: each took the next handle and the next pages, and each sub-channel the next relid
 pub record Dealt (channels : List PhaseOpening) (ring_pages : ℕ) (fate : Fate) (before : List Opening) (next : Next) (after : List Opening) (later : Next) : Type 0 where
   pub openings : after ≡ before ++ openings_from (λ d. ring_pages) (λ d. fate) next.gpadl next.page channels
-  pub gpadl : later.gpadl ≡ next.gpadl + length channels
+  pub gpadl : later.gpadl ≡ next.gpadl + lists_in channels
   pub page : later.page ≡ next.page + pages_in (λ d. ring_pages) channels
   pub relid : later.relid ≡ next.relid + length (others channels)
 

@@ -17,19 +17,21 @@ use Rattle.vmbus_msg.specs.Grammar.{type_of}
 use Rattle.vmbus_msg.specs.declared.msg.Msg.{Msg}
 use Rattle.vmbus_msg.specs.declared.msg.Msg.TheVariants.{OfferChannel, RescindChannelOffer, AllOffersDelivered, OpenChannelResult, GpadlCreated, GpadlTorndown, VersionResponse, UnloadResponse, ModifyChannelResponse}
 use Rattle.control_model.specs.declared.opening.Opening.{Opening}
+use Rattle.control_model.specs.declared.buffer.Buffer.{Buffer}
+use Rattle.control_model.specs.declared.buffer.Buffer.TheVariants.{Receive, Send}
 use Rattle.control_model.specs.declared.channel.Channel.{Channel}
 use Rattle.control_model.specs.declared.change.Change.{Change}
 use Rattle.control_model.specs.declared.change.Change.TheVariants.{Same, Offered, Now, Moved}
 use Rattle.control_model.specs.declared.moves.Move.{Move}
 use Rattle.control_model.specs.declared.burst.Burst.{Burst}
-use Rattle.control_model.specs.declared.burst.Burst.TheVariants.{Empty, One, Two, Three, PageList, Moves}
+use Rattle.control_model.specs.declared.burst.Burst.TheVariants.{Empty, One, Two, Three, PageList, BufferList, Moves}
 use Rattle.control_model.specs.declared.fault.ControlFault.{ControlFault}
 use Rattle.control_model.specs.declared.fault.ControlFault.TheVariants.{Gpadl, Relid, Offer, Unasked, Memory}
 use Rattle.control_model.specs.declared.guest_wait.GuestWait.{GuestWait}
-use Rattle.control_model.specs.declared.guest_wait.GuestWait.TheVariants.{Nothing, Response, Offers, SubOffer, ServiceOffer, Created, Opened, Modified, Torn, Rescinded, Unloaded}
+use Rattle.control_model.specs.declared.guest_wait.GuestWait.TheVariants.{Nothing, Response, Offers, SubOffer, ServiceOffer, Created, Opened, Listed, Modified, Unlisted, Torn, Rescinded, Unloaded}
 use Rattle.control_model.specs.declared.guest_turn.GuestTurn.{GuestTurn}
-use Rattle.control_model.specs.Plan.{BusPlan, opening_in, is_sub, is_of_sub, movers_in, vp_for, most_channels}
-use Rattle.control_model.specs.Messages.{propose, request, connect, open_on, close, teardown, release, farewell, Sends, Fits}
+use Rattle.control_model.specs.Plan.{BusPlan, buffer_list, opening_in, is_sub, is_of_sub, movers_in, vp_for, most_channels}
+use Rattle.control_model.specs.Messages.{propose, request, connect, open_on, close, teardown, teardown_buffer, release, farewell, Sends, Fits}
 use Rattle.control_model.specs.Channels.{version_below, kind_with, same_kind, is_kind, by_relid, lived, changed, place_of_list}
 
 -- all that contracts see of a guest's control
@@ -139,6 +141,14 @@ abbrev pub lists_next : GuestSeen → Option Part → GuestTurn → ℕ → Opti
 lists_next g part turn place None = moves_all g part turn
 lists_next g part turn place (Some o) = dials_one turn place o o.dialed
 
+-- GPADL_TEARDOWN, for the page list of a buffer, behind the one message, if any, that is sent before it
+abbrev pub and_empty : Burst → Opening → Buffer → Burst
+and_empty (One m) o k = Two m (teardown_buffer o k)
+and_empty _ o k = One (teardown_buffer o k)
+
+abbrev pub empties : GuestTurn → ℕ → Opening → Buffer → GuestTurn
+empties turn place o k = record turn { awaits = Unlisted place k; burst = and_empty turn.burst o k }
+
 -- CLOSECHANNEL and GPADL_TEARDOWN, behind the one message, if any, that is sent before them
 abbrev pub and_close : Burst → Opening → Burst
 and_close (One m) o = Three m (close o.relid) (teardown o)
@@ -153,10 +163,17 @@ abbrev pub closes : GuestTurn → Opening → Option Channel → GuestTurn
 closes turn o None = turn
 closes turn o (Some c) = closes_by turn o (lived c WantClose)
 
--- goes on with the opening at a place, if there is one: its channel is closed, or waits for the host to rescind it
+abbrev pub closes_one : GuestTurn → List Channel → ℕ → Opening → GuestTurn
+closes_one turn channels place o = closes (record turn { awaits = Torn place }) o (by_relid channels o.relid)
+
+-- goes on with the opening at a place, if there is one: its channel is closed, once the page lists of its buffers are torn down; or waits for the host to rescind it
+abbrev pub ends_open : GuestTurn → List Channel → ℕ → Opening → Bool → GuestTurn
+ends_open turn channels place o true = empties turn place o Send
+ends_open turn channels place o false = closes_one turn channels place o
+
 abbrev pub ends_one : GuestTurn → List Channel → ℕ → Opening → Bool → GuestTurn
 ends_one turn channels place o true = record turn { awaits = Rescinded place }
-ends_one turn channels place o false = closes (record turn { awaits = Torn place }) o (by_relid channels o.relid)
+ends_one turn channels place o false = ends_open turn channels place o o.buffers
 
 abbrev pub closes_next : GuestTurn → List Channel → ℕ → Option Opening → GuestTurn
 closes_next turn channels place None = record turn { awaits = Nothing }
@@ -249,6 +266,10 @@ abbrev pub on_delivered : GuestSeen → GuestTurn
 on_delivered g =
     if awaits_offers g.awaits && (length g.channels == length g.plan.kinds) then record (idle g) { awaits = Nothing } else idle g
 
+-- once a channel is open, the guest goes on with the next opening; behind a device's first channel the offers of its sub-channels come before
+abbrev pub opens_next : GuestSeen → GuestTurn → ℕ → Opening → Option Opening → GuestTurn
+opens_next g turn place o next = if not (is_sub o) && is_of_sub next then record turn { awaits = SubOffer (place + 1) } else lists_next g g.part turn (place + 1) next
+
 -- GPADL_CREATED, for the page list that was sent: the guest wants its channel open
 abbrev pub opens : GuestSeen → ℕ → Opening → Result Channel ControlFault → GuestTurn
 opens g place o (Err fault) = idle g
@@ -260,23 +281,37 @@ created_for g place relid gpadl status c None = idle g
 created_for g place relid gpadl status c (Some o) =
     if (o.relid == relid) && (o.gpadl == gpadl) && (status == 0) then opens g place o (lived c WantOpen) else idle g
 
+-- for the page list of a buffer: that of the send buffer is sent behind that of the receive buffer, and behind both the guest goes on with the next opening
+abbrev pub fills : GuestTurn → ℕ → Opening → Buffer → GuestTurn
+fills turn place o k = record turn { awaits = Listed place k; burst = BufferList o k }
+
+abbrev pub filled : GuestSeen → GuestTurn → ℕ → Opening → Buffer → GuestTurn
+filled g turn place o Receive = fills turn place o Send
+filled g turn place o Send = opens_next g turn place o (opening_of g (place + 1))
+
+abbrev pub filled_for : GuestSeen → ℕ → Buffer → ℕ → ℕ → ℕ → Option Opening → GuestTurn
+filled_for g place k relid gpadl status None = idle g
+filled_for g place k relid gpadl status (Some o) =
+    if (o.relid == relid) && (buffer_list o k == gpadl) && (status == 0) then filled g (idle g) place o k else idle g
+
 abbrev pub created_while : GuestSeen → GuestWait → ℕ → ℕ → ℕ → Channel → GuestTurn
 created_while g (Created place) relid gpadl status c = created_for g place relid gpadl status c (opening_of g place)
+created_while g (Listed place k) relid gpadl status c = filled_for g place k relid gpadl status (opening_of g place)
 created_while g _ relid gpadl status c = idle g
 
 abbrev pub on_created : GuestSeen → ℕ → ℕ → ℕ → Option Channel → Result GuestTurn ControlFault
 on_created g relid gpadl status None = Err (Relid relid)
 on_created g relid gpadl status (Some c) = Ok (created_while g g.awaits relid gpadl status c)
 
--- OPENCHANNEL_RESULT: the channel is open with status 0, and the guest goes on with the next opening; behind a device's first channel the offers of its
--- sub-channels come before
-abbrev pub opens_next : GuestSeen → GuestTurn → ℕ → Opening → Option Opening → GuestTurn
-opens_next g turn place o next = if not (is_sub o) && is_of_sub next then record turn { awaits = SubOffer (place + 1) } else lists_next g g.part turn (place + 1) next
+-- OPENCHANNEL_RESULT: the channel is open with status 0, and the page lists of its buffers are sent, where it has some
+abbrev pub opens_with : GuestSeen → GuestTurn → ℕ → Opening → Bool → GuestTurn
+opens_with g turn place o true = fills turn place o Receive
+opens_with g turn place o false = opens_next g turn place o (opening_of g (place + 1))
 
 abbrev pub opened_for : GuestSeen → GuestTurn → ℕ → ℕ → ℕ → Option Opening → GuestTurn
 opened_for g turn place relid status None = turn
 opened_for g turn place relid status (Some o) =
-    if (o.relid == relid) && (status == 0) then opens_next g turn place o (opening_of g (place + 1)) else turn
+    if (o.relid == relid) && (status == 0) then opens_with g turn place o o.buffers else turn
 
 abbrev pub opened_while : GuestSeen → GuestTurn → GuestWait → ℕ → ℕ → GuestTurn
 opened_while g turn (Opened place) relid status = opened_for g turn place relid status (opening_of g place)
@@ -335,9 +370,27 @@ abbrev pub torn_at : GuestSeen → ℕ → ℕ → Option Channel → Result Gue
 torn_at g gpadl place None = Err (Gpadl (Handle gpadl))
 torn_at g gpadl place (Some c) = torn_by g (place + 1) (lived c TorndownSeen)
 
-abbrev pub on_torndown : GuestSeen → ℕ → Option ℕ → Result GuestTurn ControlFault
-on_torndown g gpadl None = Err (Gpadl (Handle gpadl))
-on_torndown g gpadl (Some place) = torn_at g gpadl place (slice_get g.channels place)
+abbrev pub torn_rings : GuestSeen → ℕ → Option ℕ → Result GuestTurn ControlFault
+torn_rings g gpadl None = Err (Gpadl (Handle gpadl))
+torn_rings g gpadl (Some place) = torn_at g gpadl place (slice_get g.channels place)
+
+-- but for the page list of a buffer no channel goes on: that of the receive buffer is torn down behind that of the send buffer, and behind both the channel is closed
+abbrev pub emptied : GuestSeen → ℕ → Opening → Buffer → GuestTurn
+emptied g place o Send = empties (idle g) place o Receive
+emptied g place o Receive = closes_one (idle g) g.channels place o
+
+abbrev pub empties_list : Buffer → ℕ → Option Opening → Bool
+empties_list k gpadl None = false
+empties_list k gpadl (Some o) = buffer_list o k == gpadl
+
+abbrev pub emptied_at : GuestSeen → ℕ → Buffer → Option Opening → GuestTurn
+emptied_at g place k None = idle g
+emptied_at g place k (Some o) = emptied g place o k
+
+abbrev pub on_torndown : GuestSeen → GuestWait → ℕ → Result GuestTurn ControlFault
+on_torndown g (Unlisted place k) gpadl =
+    if empties_list k gpadl (opening_of g place) then Ok (emptied_at g place k (opening_of g place)) else torn_rings g gpadl (place_of_list g.channels gpadl)
+on_torndown g _ gpadl = torn_rings g gpadl (place_of_list g.channels gpadl)
 
 -- RESCIND_CHANNELOFFER: the guest settles, gives the channel back, and goes on with the next opening; of a channel that is moved no answer is waited for then
 abbrev pub releases : GuestSeen → ℕ → Channel → Result Channel ControlFault → GuestTurn
@@ -370,7 +423,7 @@ guest_hears g (AllOffersDelivered padding) = Ok (on_delivered g)
 guest_hears g (OpenChannelResult padding relid openid status) = on_result g relid status (by_relid g.channels relid)
 guest_hears g (ModifyChannelResponse padding relid status) = on_modified g relid (by_relid g.channels relid)
 guest_hears g (GpadlCreated padding relid gpadl status) = on_created g relid gpadl status (by_relid g.channels relid)
-guest_hears g (GpadlTorndown padding gpadl) = on_torndown g gpadl (place_of_list g.channels gpadl)
+guest_hears g (GpadlTorndown padding gpadl) = on_torndown g g.awaits gpadl
 guest_hears g (VersionResponse padding supported state padding2 conn) = Ok (on_response g g.awaits supported)
 guest_hears g (UnloadResponse padding) = Ok (on_unloaded g g.awaits)
 guest_hears g m = Err (Unasked (type_of m))

@@ -9,12 +9,14 @@ use Rattle.contact.specs.Classes.{offers_from}
 use Rattle.chan_state.specs.declared.state.State.TheVariants.{Opening as IsOpening, Opened as IsOpened, Modifying as IsModifying, Closing, Closed as IsClosed}
 use Rattle.vmbus_msg.specs.declared.msg.Msg.{Msg}
 use Rattle.control_model.specs.declared.opening.Opening.{Opening}
+use Rattle.control_model.specs.declared.buffer.Buffer.{Buffer}
+use Rattle.control_model.specs.declared.buffer.Buffer.TheVariants.{Receive, Send}
 use Rattle.control_model.specs.declared.channel.Channel.{Channel}
 use Rattle.control_model.specs.declared.guest_wait.GuestWait.{GuestWait}
-use Rattle.control_model.specs.declared.guest_wait.GuestWait.TheVariants.{Nothing, Response, Offers, SubOffer, ServiceOffer, Created, Opened, Modified, Torn, Rescinded, Unloaded}
-use Rattle.control_model.specs.Plan.{BusPlan, phase_of, closing_of, is_sub, first_subs, subs_next}
-use Rattle.control_model.specs.Messages.{propose, request, delivered, created, open_on, opened, offer_sub, release, rescind, farewell, farewell_taken}
-use Rattle.control_model.specs.Said.{answer_to, guest_lists, guest_opens, host_opens_all, guest_closes, host_closes, only_sub, moved, guest_moves, host_moves, guest_in_phase, host_in_phase, from_3_0, said_by_guest, said_by_host}
+use Rattle.control_model.specs.declared.guest_wait.GuestWait.TheVariants.{Nothing, Response, Offers, SubOffer, ServiceOffer, Created, Opened, Listed, Modified, Unlisted, Torn, Rescinded, Unloaded}
+use Rattle.control_model.specs.Plan.{BusPlan, buffer_list, phase_of, closing_of, is_sub, first_subs, subs_next}
+use Rattle.control_model.specs.Messages.{propose, request, delivered, created, open_on, opened, offer_sub, close, teardown, teardown_buffer, torndown, release, rescind, farewell, farewell_taken}
+use Rattle.control_model.specs.Said.{answer_to, guest_lists, guest_buffer, guest_buffers, host_buffer, host_buffers, guest_opens, host_opens_all, guest_closes, host_closes, only_sub, moved, guest_moves, host_moves, guest_in_phase, host_in_phase, from_3_0, said_by_guest, said_by_host}
 use Rattle.control_model.specs.Guest.{GuestSeen, offered_channel}
 use Rattle.control_model.specs.Stand.{At, EndsAt, offered_before, offered_by, offered_for, marked, vps_before, guest_is, guest_ends, guest_before, Tries, Agreed, Meet}
 
@@ -43,15 +45,36 @@ lists_dialed (o ∷ os) = guest_lists o ++ flat_map guest_opens os
 
 abbrev pub opens_listed : List Opening → List Msg
 opens_listed [] = []
-opens_listed (o ∷ os) = open_on o ∷ flat_map guest_opens os
+opens_listed (o ∷ os) = open_on o ∷ (guest_buffers o ++ flat_map guest_opens os)
+
+abbrev pub fills_opened : List Opening → List Msg
+fills_opened [] = []
+fills_opened (o ∷ os) = guest_buffers o ++ flat_map guest_opens os
 
 abbrev pub answers_open : List Opening → List Msg
 answers_open [] = []
-answers_open (o ∷ os) = opened o.relid o.relid ∷ (map offer_sub (subs_next (o ∷ os)) ++ host_opens_all os)
+answers_open (o ∷ os) = opened o.relid o.relid ∷ (host_buffers o ++ (map offer_sub (subs_next (o ∷ os)) ++ host_opens_all os))
 
 abbrev pub answers_list : List Opening → List Msg
 answers_list [] = []
 answers_list (o ∷ os) = created o.relid o.gpadl ∷ answers_open (o ∷ os)
+
+-- once the page list of a buffer was sent, that of the send buffer follows that of the receive buffer, and each is created
+abbrev pub fills_behind : Opening → Buffer → List Msg
+fills_behind o Receive = guest_buffer o Send
+fills_behind o Send = []
+
+abbrev pub fills_listed : Buffer → List Opening → List Msg
+fills_listed k [] = []
+fills_listed k (o ∷ os) = fills_behind o k ++ flat_map guest_opens os
+
+abbrev pub answers_behind : Opening → Buffer → List Msg
+answers_behind o Receive = host_buffer o Receive ∷ host_buffer o Send ∷ []
+answers_behind o Send = host_buffer o Send ∷ []
+
+abbrev pub answers_fill : Buffer → List Opening → List Msg
+answers_fill k [] = []
+answers_fill k (o ∷ os) = answers_behind o k ++ (map offer_sub (subs_next (o ∷ os)) ++ host_opens_all os)
 
 -- from the first sub-channel of the device whose sub-channel has this place
 abbrev pub from_first_sub : List Opening → ℕ → List Opening → List Opening
@@ -61,7 +84,8 @@ from_first_sub os place (o ∷ left) = drop (place + 1 - o.sub) os
 abbrev pub start_to_say : List Opening → GuestWait → List Msg
 start_to_say os (ServiceOffer place) = lists_dialed (drop place os)
 start_to_say os (Created place) = opens_listed (drop place os)
-start_to_say os (Opened place) = flat_map guest_opens (drop (suc place) os)
+start_to_say os (Opened place) = fills_opened (drop place os)
+start_to_say os (Listed place k) = fills_listed k (drop place os)
 start_to_say os (SubOffer place) = flat_map guest_opens (from_first_sub os place (drop place os))
 start_to_say os awaits = []
 
@@ -69,6 +93,7 @@ abbrev pub start_to_hear : List Opening → GuestWait → List Msg
 start_to_hear os (ServiceOffer place) = host_opens_all (drop place os)
 start_to_hear os (Created place) = answers_list (drop place os)
 start_to_hear os (Opened place) = answers_open (drop place os)
+start_to_hear os (Listed place k) = answers_fill k (drop place os)
 start_to_hear os (SubOffer place) = map offer_sub (first_subs (drop place os)) ++ host_opens_all (from_first_sub os place (drop place os))
 start_to_hear os awaits = []
 
@@ -96,13 +121,42 @@ abbrev pub takes_one : List Opening → List Msg
 takes_one [] = []
 takes_one (o ∷ os) = rescind o.relid ∷ flat_map host_closes os
 
+-- and a network's is closed once the page lists of its buffers are torn down: that of the receive buffer follows that of the send buffer
+abbrev pub closes_rings : Opening → List Msg
+closes_rings o = close o.relid ∷ teardown o ∷ only_sub o (release o.relid)
+
+abbrev pub empties_behind : Opening → Buffer → List Msg
+empties_behind o Send = teardown_buffer o Receive ∷ closes_rings o
+empties_behind o Receive = closes_rings o
+
+abbrev pub empties_left : Buffer → List Opening → List Msg
+empties_left k [] = []
+empties_left k (o ∷ os) = empties_behind o k ++ flat_map guest_closes os
+
+abbrev pub torn_rings : Opening → List Msg
+torn_rings o = torndown o.gpadl ∷ only_sub o (rescind o.relid)
+
+abbrev pub emptied_behind : Opening → Buffer → List Msg
+emptied_behind o Send = torndown (buffer_list o Send) ∷ torndown (buffer_list o Receive) ∷ torn_rings o
+emptied_behind o Receive = torndown (buffer_list o Receive) ∷ torn_rings o
+
+abbrev pub emptied_left : Buffer → List Opening → List Msg
+emptied_left k [] = []
+emptied_left k (o ∷ os) = emptied_behind o k ++ flat_map host_closes os
+
+abbrev pub torn_left : List Opening → List Msg
+torn_left [] = []
+torn_left (o ∷ os) = torn_rings o ++ flat_map host_closes os
+
 abbrev pub end_to_say : List Opening → GuestWait → List Msg
+end_to_say os (Unlisted place k) = empties_left k (drop place os)
 end_to_say os (Torn place) = gives_sub (drop place os)
 end_to_say os (Rescinded place) = gives_one (drop place os)
 end_to_say os awaits = []
 
 abbrev pub end_to_hear : List Opening → GuestWait → List Msg
-end_to_hear os (Torn place) = flat_map host_closes (drop place os)
+end_to_hear os (Unlisted place k) = emptied_left k (drop place os)
+end_to_hear os (Torn place) = torn_left (drop place os)
 end_to_hear os (Rescinded place) = takes_one (drop place os)
 end_to_hear os awaits = []
 
@@ -147,11 +201,17 @@ pub data GuestStands (plan : BusPlan) : Option Part → GuestWait → Option Ver
       → Meet plan v channels (offered_for plan phase done o left) (marked (guest_is (vps_before plan phase) IsOpened) done (guest_before (vps_before plan phase) plan phase)) → GuestStands plan (Some (PhaseStart phase)) (Created place) (Some v) channels
   opens : (v : Version) (channels : List Channel) (phase place : ℕ) (done : List Opening) (o : Opening) (left : List Opening) → At plan phase place done o left
       → Meet plan v channels (offered_for plan phase done o left) (marked (guest_is (vps_before plan phase) IsOpened) done (marked (guest_is (vps_before plan phase) IsOpening) (o ∷ []) (guest_before (vps_before plan phase) plan phase))) → GuestStands plan (Some (PhaseStart phase)) (Opened place) (Some v) channels
+  -- the page list of a buffer of an open channel was sent
+  fills : (v : Version) (channels : List Channel) (phase place : ℕ) (done : List Opening) (o : Opening) (left : List Opening) (k : Buffer) → At plan phase place done o left → o.buffers ≡ true
+      → Meet plan v channels (offered_for plan phase done o left) (marked (guest_is (vps_before plan phase) IsOpened) (done ++ o ∷ []) (guest_before (vps_before plan phase) plan phase)) → GuestStands plan (Some (PhaseStart phase)) (Listed place k) (Some v) channels
   moves : (v : Version) (channels : List Channel) (phase place : ℕ) (done : List Opening) (o : Opening) (left : List Opening) → phase < length plan.phases → moved plan (phase_of plan phase) ≡ done ++ o ∷ left → place ≡ length done → answers_modify v.0 ≡ true
       → Meet plan v channels (offered_before plan (suc phase)) (marked (guest_is (vps_before plan (suc phase)) IsModifying) (o ∷ left) (marked (guest_is (vps_before plan (suc phase)) IsOpened) (phase_of plan phase) (guest_before (vps_before plan (suc phase)) plan phase)))
       → GuestStands plan (Some (PhaseStart phase)) (Modified place) (Some v) channels
   started : (v : Version) (channels : List Channel) (phase : ℕ) → phase < length plan.phases
       → Meet plan v channels (offered_before plan (suc phase)) (marked (guest_is (vps_before plan (suc phase)) IsOpened) (phase_of plan phase) (guest_before (vps_before plan (suc phase)) plan phase)) → GuestStands plan (Some (PhaseStart phase)) Nothing (Some v) channels
+  -- the page list of a buffer is being torn down
+  empties : (v : Version) (channels : List Channel) (phase place : ℕ) (done : List Opening) (o : Opening) (left : List Opening) (k : Buffer) → EndsAt plan phase place done o left → o.rescinded ≡ false → o.buffers ≡ true
+      → Meet plan v channels (offered_before plan (suc phase)) (marked (guest_ends (vps_before plan (suc phase))) done (marked (guest_is (vps_before plan (suc phase)) IsOpened) (o ∷ left) (guest_before (vps_before plan (suc phase)) plan phase))) → GuestStands plan (Some (PhaseEnd phase)) (Unlisted place k) (Some v) channels
   -- a channel is being closed; one is to be rescinded; a sub-channel is closed, and to be rescinded; all channels of the phase are done with
   closes : (v : Version) (channels : List Channel) (phase place : ℕ) (done : List Opening) (o : Opening) (left : List Opening) → EndsAt plan phase place done o left → o.rescinded ≡ false
       → Meet plan v channels (offered_before plan (suc phase)) (marked (guest_ends (vps_before plan (suc phase))) done (marked (guest_is (vps_before plan (suc phase)) Closing) (o ∷ []) (marked (guest_is (vps_before plan (suc phase)) IsOpened) left (guest_before (vps_before plan (suc phase)) plan phase)))) → GuestStands plan (Some (PhaseEnd phase)) (Torn place) (Some v) channels

@@ -20,15 +20,17 @@ use Rattle.vmbus_msg.specs.Grammar.{type_of}
 use Rattle.vmbus_msg.specs.declared.msg.Msg.{Msg}
 use Rattle.vmbus_msg.specs.declared.msg.Msg.TheVariants.{RequestOffers, OpenChannel, CloseChannel, GpadlHeader, GpadlBody, GpadlTeardown, RelidReleased, InitiateContact, Unload as UnloadSeen, TlConnectRequest, ModifyChannel}
 use Rattle.control_model.specs.declared.opening.Opening.{Opening}
+use Rattle.control_model.specs.declared.buffer.Buffer.{Buffer}
+use Rattle.control_model.specs.declared.buffer.Buffer.TheVariants.{Receive, Send}
 use Rattle.control_model.specs.declared.burst.Burst.{Burst}
 use Rattle.control_model.specs.declared.burst.Burst.TheVariants.{Empty, One, Two, Offers, Opens}
 use Rattle.control_model.specs.declared.fault.ControlFault.{ControlFault}
 use Rattle.control_model.specs.declared.fault.ControlFault.TheVariants.{State as StateFault, Gpadl, Relid, Unasked}
 use Rattle.control_model.specs.declared.host_wait.HostWait.{HostWait}
-use Rattle.control_model.specs.declared.host_wait.HostWait.TheVariants.{Nothing, Contact as AwaitsContact, Request, Connect, List as AwaitsList, Open, Modify, Close, Teardown, Release, Unload as AwaitsUnload}
+use Rattle.control_model.specs.declared.host_wait.HostWait.TheVariants.{Nothing, Contact as AwaitsContact, Request, Connect, List as AwaitsList, Open, Fill, Modify, Empty as AwaitsEmpty, Close, Teardown, Release, Unload as AwaitsUnload}
 use Rattle.control_model.specs.declared.host_next.HostNext.{HostNext}
 use Rattle.control_model.specs.declared.host_next.Rescind.{Rescind}
-use Rattle.control_model.specs.Plan.{BusPlan, opening_in, is_sub, subs_behind, movers_in}
+use Rattle.control_model.specs.Plan.{BusPlan, buffer_list, is_buffer_in, opening_in, is_sub, subs_behind, movers_in}
 use Rattle.control_model.specs.Messages.{respond, offer_service, created, opened, modified, torndown, rescind, farewell_taken, Sends}
 use Rattle.control_model.specs.Channels.{accepts, by_relid, row_of, stands, goes_by}
 use Rattle.control_model.specs.Guest.{can_unload, can_modify, is_answered}
@@ -110,16 +112,19 @@ waits awaits = record { awaits = awaits; rescinds = None }
 -- the host wants the channel of an opening rescinded, where the table has a row for that
 abbrev pub rescind_of : Opening → ChanState → Option (State × Action) → Option Rescind
 rescind_of o life None = None
-rescind_of o life (Some row) = Some (record { relid = o.relid; life = stands life row.0; gpadl = o.gpadl })
+rescind_of o life (Some row) = Some (record { opening = o; life = stands life row.0 })
 
 abbrev pub wants_rescind : Opening → Option ChanState → Option Rescind
 wants_rescind o None = None
 wants_rescind o (Some life) = rescind_of o life (row_of life WantRescind)
 
--- goes on with the opening at a place, if there is one: its channel is rescinded, and waits to be given back, or waits for the guest to close it
+-- goes on with the opening at a place, if there is one: its channel is rescinded, and waits to be given back; or waits for the guest to close it, once the guest tore the page lists of its buffers down
+abbrev pub waits_end : ℕ → Bool → HostWait
+waits_end place buffers = if buffers then AwaitsEmpty place Send else Close place
+
 abbrev pub one_next : List ChanState → ℕ → Opening → Bool → HostNext
 one_next channels place o true = record { awaits = Release place; rescinds = wants_rescind o (by_relid channels o.relid) }
-one_next channels place o false = waits (Close place)
+one_next channels place o false = waits (waits_end place o.buffers)
 
 abbrev pub next_end : List ChanState → ℕ → Option Opening → HostNext
 next_end channels place None = waits Nothing
@@ -129,20 +134,27 @@ next_end channels place (Some o) = one_next channels place o o.rescinded
 abbrev pub without : Assembly → ℕ → Assembly
 without lists gpadl = record { building = lists.building; live = filter (λ handle. not (handle == gpadl)) lists.live }
 
--- the channel that is rescinded stands so then, its page list ends, and RESCIND_CHANNELOFFER is sent behind the answer, if there is one
+-- those of an opening's buffers, and all of an opening
+abbrev pub without_buffers : Assembly → Opening → Assembly
+without_buffers lists o = if o.buffers then without (without lists (buffer_list o Send)) (buffer_list o Receive) else lists
+
+abbrev pub without_all : Assembly → Opening → Assembly
+without_all lists o = without (without_buffers lists o) o.gpadl
+
+-- the channel that is rescinded stands so then, all its page lists end, and RESCIND_CHANNELOFFER is sent behind the answer, if there is one
 abbrev pub rescinded_among : List ChanState → Option Rescind → List ChanState
 rescinded_among channels None = channels
-rescinded_among channels (Some r) = slice_set channels (r.relid - 1) r.life
+rescinded_among channels (Some r) = slice_set channels (r.opening.relid - 1) r.life
 
 abbrev pub without_its : Assembly → Option Rescind → Assembly
 without_its lists None = lists
-without_its lists (Some r) = without lists r.gpadl
+without_its lists (Some r) = without_all lists r.opening
 
 abbrev pub and_rescind : Option Msg → Option Rescind → Burst
 and_rescind None None = Empty
-and_rescind None (Some r) = One (rescind r.relid)
+and_rescind None (Some r) = One (rescind r.opening.relid)
 and_rescind (Some m) None = One m
-and_rescind (Some m) (Some r) = Two m (rescind r.relid)
+and_rescind (Some m) (Some r) = Two m (rescind r.opening.relid)
 
 abbrev pub goes_next : HostTurn → Option Msg → HostNext → HostTurn
 goes_next turn answer next = record {
@@ -201,9 +213,18 @@ abbrev pub on_connect : HostSeen → HostWait → List ℕ → HostTurn
 on_connect h (Connect place) service = connects h place service (opening_for h place)
 on_connect h _ service = at_rest h
 
--- a channel's page list came: it is created once it is whole
+-- a channel's page list came: it is created once it is whole; behind that of the receive buffer that of the send buffer comes, and behind both the next opening
+abbrev pub filled_then : HostSeen → ℕ → Buffer → HostWait
+filled_then h place Receive = Fill place Send
+filled_then h place Send = waits_list h h.part (place + 1) (opening_for h (place + 1))
+
+abbrev pub is_list_of : Buffer → ℕ → ℕ → Option Opening → Bool
+is_list_of k relid gpadl None = false
+is_list_of k relid gpadl (Some o) = (o.relid == relid) && (buffer_list o k == gpadl)
+
 abbrev pub listed : HostSeen → HostWait → Partial → HostWait
 listed h (AwaitsList place) p = if is_of p.relid (opening_for h place) then Open place else AwaitsList place
+listed h (Fill place k) p = if is_list_of k p.relid p.handle (opening_for h place) then filled_then h place k else Fill place k
 listed h awaits p = awaits
 
 abbrev pub lists_by : HostSeen → Assembly → Option Partial → HostTurn
@@ -225,10 +246,18 @@ on_header h relid m (Some life) = on_piece h m (fault_of h.lists m)
 abbrev pub goes_on : HostSeen → ℕ → ChanState → State → List ChanState
 goes_on h relid life state = slice_set h.channels (relid - 1) (stands life state)
 
+-- once a channel is open, the page lists of its buffers come, where it has some, and the host goes on with the next opening
+abbrev pub has_buffers_at : Option Opening → Bool
+has_buffers_at None = false
+has_buffers_at (Some o) = o.buffers
+
+abbrev pub waits_behind : HostSeen → ℕ → HostWait
+waits_behind h place = if has_buffers_at (opening_for h place) then Fill place Receive else waits_list h h.part (place + 1) (opening_for h (place + 1))
+
 -- OPENCHANNEL, answered by status 0 where the table says so; behind the answer the sub-channels of the device are offered, where this is its first channel and
 -- the host waited for it
 abbrev pub opened_then : HostSeen → HostWait → ℕ → HostWait
-opened_then h (Open place) relid = if is_of relid (opening_for h place) then waits_list h h.part (place + 1) (opening_for h (place + 1)) else Open place
+opened_then h (Open place) relid = if is_of relid (opening_for h place) then waits_behind h place else Open place
 opened_then h awaits relid = awaits
 
 abbrev pub with_offers : HostSeen → HostWait → ℕ → Msg → Burst
@@ -327,15 +356,33 @@ teardown_by h relid gpadl life None = Err (StateFault (record { state = life.sta
 teardown_by h relid gpadl life (Some row) =
     Ok (goes_next (record (at_rest h) { channels = goes_on h relid life row.0; lists = lists_torn h.lists gpadl row.1 }) (torn_answer gpadl row.1) (torn_then h h.awaits relid (stands life row.0)))
 
--- the rescind of a channel ends its page list, so no handle is asked of it then
+-- but for the page list of a buffer the channel doesn't go on: it isn't live any more, and behind that of the send buffer that of the receive buffer is torn down, and behind both the channel closed
+abbrev pub emptied_next : ℕ → Buffer → HostWait
+emptied_next place Send = AwaitsEmpty place Receive
+emptied_next place Receive = Close place
+
+abbrev pub emptied_then : HostSeen → HostWait → ℕ → ℕ → HostWait
+emptied_then h (AwaitsEmpty place k) relid gpadl = if is_list_of k relid gpadl (opening_for h place) then emptied_next place k else AwaitsEmpty place k
+emptied_then h awaits relid gpadl = awaits
+
+abbrev pub empties_one : HostSeen → ℕ → ℕ → HostTurn
+empties_one h relid gpadl = record (at_rest h) { awaits = emptied_then h h.awaits relid gpadl; lists = without h.lists gpadl; burst = One (torndown gpadl) }
+
+-- the rescind of a channel ends its page lists, so no handle is asked of it then
 abbrev pub is_rescinded : State → Bool
 is_rescinded IsRescinded = true
 is_rescinded _ = false
 
+abbrev pub tears_live : HostSeen → ℕ → ℕ → ChanState → Result HostTurn ControlFault
+tears_live h relid gpadl life = if is_buffer_in h.plan h.part relid gpadl then Ok (empties_one h relid gpadl) else teardown_by h relid gpadl life (row_of life TeardownSeen)
+
+abbrev pub tears_known : HostSeen → ℕ → ℕ → ChanState → Result HostTurn ControlFault
+tears_known h relid gpadl life = if is_live h.lists.live gpadl then tears_live h relid gpadl life else Err (Gpadl (Handle gpadl))
+
 abbrev pub on_teardown : HostSeen → ℕ → ℕ → Option ChanState → Result HostTurn ControlFault
 on_teardown h relid gpadl None = Err (Relid relid)
 on_teardown h relid gpadl (Some life) =
-    if is_rescinded life.state || is_live h.lists.live gpadl then teardown_by h relid gpadl life (row_of life TeardownSeen) else Err (Gpadl (Handle gpadl))
+    if is_rescinded life.state then teardown_by h relid gpadl life (row_of life TeardownSeen) else tears_known h relid gpadl life
 
 -- RELID_RELEASED
 abbrev pub released_then : HostSeen → HostWait → ℕ → HostNext

@@ -8,10 +8,11 @@ use Rattle.contact.specs.Services.{service_id}
 use Rattle.contact.specs.Classes.{offer, offers_from}
 use Rattle.gpadl.specs.Cut.{AreMessagesOf}
 use Rattle.control_model.specs.declared.opening.Opening.{Opening}
+use Rattle.control_model.specs.declared.buffer.Buffer.{Buffer}
 use Rattle.control_model.specs.declared.burst.Burst.{Burst}
 use Rattle.control_model.specs.declared.moves.Move.{Move}
-use Rattle.control_model.specs.declared.burst.Burst.TheVariants.{Empty, One, Two, Three, PageList, Offers, Opens, Moves}
-use Rattle.control_model.specs.Plan.{BusPlan, list_pages, subs_behind, IsOpening}
+use Rattle.control_model.specs.declared.burst.Burst.TheVariants.{Empty, One, Two, Three, PageList, BufferList, Offers, Opens, Moves}
+use Rattle.control_model.specs.Plan.{BusPlan, list_pages, buffer_list, buffer_begins, buffer_size, subs_behind, IsOpening}
 
 -- the guest proposes a version
 abbrev pub propose : ℕ → Msg
@@ -39,6 +40,10 @@ offer_service port relid = offer (Sock port) relid 0
 -- the pages of a list, from its first one on
 abbrev pub pages_from : Opening → List ℕ
 pages_from o = range_with_len o.first_page (list_pages o.ring_pages)
+
+-- the pages of a buffer's list
+abbrev pub buffer_pages : Opening → Buffer → List ℕ
+buffer_pages o k = range_with_len (buffer_begins o k) buffer_size
 
 -- the host knows a page list
 abbrev pub created : ℕ → ℕ → Msg
@@ -73,6 +78,10 @@ close relid = CloseChannel 0 relid
 abbrev pub teardown : Opening → Msg
 teardown o = GpadlTeardown 0 o.relid o.gpadl
 
+-- and that of a buffer
+abbrev pub teardown_buffer : Opening → Buffer → Msg
+teardown_buffer o k = GpadlTeardown 0 o.relid (buffer_list o k)
+
 -- the host let it go
 abbrev pub torndown : ℕ → Msg
 torndown gpadl = GpadlTorndown 0 gpadl
@@ -99,6 +108,7 @@ Sends plan (One m) sent = sent ≡ m ∷ []
 Sends plan (Two m n) sent = sent ≡ m ∷ n ∷ []
 Sends plan (Three m n o) sent = sent ≡ m ∷ n ∷ o ∷ []
 Sends plan (PageList o) sent = AreMessagesOf o.relid o.gpadl (pages_from o) sent
+Sends plan (BufferList o k) sent = AreMessagesOf o.relid (buffer_list o k) (buffer_pages o k) sent
 Sends plan Offers sent = sent ≡ offers_from 1 plan.kinds ++ delivered ∷ []
 Sends plan (Opens m part place) sent = sent ≡ m ∷ map offer_sub (subs_behind plan part place)
 Sends plan (Moves moves) sent = sent ≡ map modify_one moves
@@ -106,4 +116,5 @@ Sends plan (Moves moves) sent = sent ≡ map modify_one moves
 -- a burst can be sent: the page list in it has pages
 abbrev pub Fits : Burst → Type 0
 Fits (PageList o) = IsOpening o
+Fits (BufferList o k) = IsOpening o
 Fits _ = Unit {0}

@@ -1,7 +1,7 @@
 -- What both controls know of a script from the start.
-use Rattle.std.specs.Prelude.{◌≡◌, ◌<◌, ◌≤◌, ◌^◌, All, ℕ, Bool, true, false, not, ◌+◌, ◌*◌, ◌==◌, ◌&&◌, List, [], ◌∷◌, ◌++◌, drop, filter, length, map, slice_get, slice_index_or, nat_lt, Option, Some, None, is_some, if◌then◌else◌}
+use Rattle.std.specs.Prelude.{◌≡◌, ◌<◌, ◌≤◌, ◌^◌, All, ℕ, Bool, true, false, not, ◌+◌, ◌*◌, ◌==◌, ◌&&◌, ◌||◌, List, [], ◌∷◌, ◌++◌, drop, filter, length, map, slice_get, slice_index_or, nat_lt, Option, Some, None, is_some, if◌then◌else◌}
 use Rattle.std.specs.Option.{option_map_or}
-use Rattle.std.specs.List.{range_with_len}
+use Rattle.std.specs.List.{range_with_len, list_any}
 use Rattle.contact.specs.Versions.{IsVersion}
 use Rattle.contact.specs.declared.version.Version.{Version}
 use Rattle.contact.specs.declared.kind.Kind.{Kind}
@@ -9,6 +9,8 @@ use Rattle.contact.specs.declared.kind.Kind.TheVariants.{Sock}
 use Rattle.contact.specs.declared.part.Part.{Part}
 use Rattle.contact.specs.declared.part.Part.TheVariants.{Contact, PhaseStart, PhaseEnd, Unload}
 use Rattle.control_model.specs.declared.opening.Opening.{Opening}
+use Rattle.control_model.specs.declared.buffer.Buffer.{Buffer}
+use Rattle.control_model.specs.declared.buffer.Buffer.TheVariants.{Receive, Send}
 
 -- the highest versions of both ends, the kinds of the devices in order of offer, and for each phase the channels that are opened in it, in that order
 pub record BusPlan : Type 0 where
@@ -102,6 +104,44 @@ part_after plan (Some Unload) = None
 abbrev pub list_pages : ℕ → ℕ
 list_pages ring_pages = 2 * ring_pages + 2
 
+-- a network's buffer has 64 pages, and a page list of its own: the two have the handles and the pages behind those of the rings' list, the receive buffer's first
+abbrev pub buffer_size : ℕ
+buffer_size = 64
+
+abbrev pub buffer_list : Opening → Buffer → ℕ
+buffer_list o Receive = o.gpadl + 1
+buffer_list o Send = o.gpadl + 2
+
+abbrev pub buffer_begins : Opening → Buffer → ℕ
+buffer_begins o Receive = o.first_page + list_pages o.ring_pages
+buffer_begins o Send = o.first_page + (list_pages o.ring_pages + buffer_size)
+
+-- how many page lists an opening has, with buffers or without, and how many pages they have together
+abbrev pub lists_with : Bool → ℕ
+lists_with buffers = if buffers then 3 else 1
+
+abbrev pub pages_with : Bool → ℕ → ℕ
+pages_with buffers ring_pages = list_pages ring_pages + (if buffers then 2 * buffer_size else 0)
+
+abbrev pub lists_of : Opening → ℕ
+lists_of o = lists_with o.buffers
+
+abbrev pub pages_of : Opening → ℕ
+pages_of o = pages_with o.buffers o.ring_pages
+
+-- a handle is that of a buffer's list
+abbrev pub is_buffer : Opening → ℕ → Bool
+is_buffer o gpadl = o.buffers && ((buffer_list o Receive == gpadl) || (buffer_list o Send == gpadl))
+
+-- among the openings of the phase that starts or ends in a part: a buffer of the channel with a relid has it
+abbrev pub openings_in : BusPlan → Option Part → List Opening
+openings_in plan (Some (PhaseStart phase)) = phase_of plan phase
+openings_in plan (Some (PhaseEnd phase)) = phase_of plan phase
+openings_in plan part = []
+
+abbrev pub is_buffer_in : BusPlan → Option Part → ℕ → ℕ → Bool
+is_buffer_in plan part relid gpadl = list_any (λ o. (o.relid == relid) && is_buffer o gpadl) (openings_in plan part)
+
 -- a port has 32 bits
 abbrev pub IsPort : Option ℕ → Type 0
 IsPort None = Unit {0}
@@ -115,13 +155,14 @@ HasPort kind = Unit {0}
 abbrev pub most_channels : ℕ
 most_channels = 320032
 
--- an opening of a channel: its rings have 1 to 16 data pages, and its list has pages with numbers of 64 bits; the channel of a service that the guest asks for is no sub-channel
+-- an opening of a channel: its rings have 1 to 16 data pages, and its lists, also those of buffers, have handles of 32 bits and pages with numbers of 64 bits; the channel of a service that the guest asks for is no sub-channel
 pub record IsOpening (o : Opening) : Type 0 where
   pub named : 1 ≤ o.relid
   pub few : o.relid ≤ most_channels
   pub some_pages : 1 ≤ o.ring_pages
   pub few_pages : o.ring_pages ≤ 16
-  pub numbered : o.first_page + list_pages o.ring_pages < 2 ^ 64
+  pub numbered : o.first_page + pages_with true o.ring_pages < 2 ^ 64
+  pub handled : o.gpadl + lists_with true ≤ 2 ^ 32
   pub alone : is_some o.dialed ≡ true → is_sub o ≡ false
   pub port : IsPort o.dialed
 
@@ -138,15 +179,20 @@ abbrev pub Seated : ℕ → List Opening → Type 0
 Seated next [] = Unit {0}
 Seated next (o ∷ os) = (is_sub o ≡ true → o.sub ≡ next) × Seated (o.sub + 1) os
 
+-- a channel that has buffers has no sub-channels behind it
+abbrev pub Bare : List Opening → Type 0
+Bare [] = Unit {0}
+Bare (o ∷ os) = (o.buffers ≡ true → first_subs os ≡ []) × Bare os
+
 -- the relids rise
 abbrev pub Rising : ℕ → List Opening → Type 0
 Rising least [] = Unit {0}
 Rising least (o ∷ os) = (least ≤ o.relid) × Rising (o.relid + 1) os
 
--- each opening follows the one before: its handle is the next one, and its pages begin behind those of that one
+-- each opening follows the one before: its first handle is the next one, and its pages begin behind those of that one
 abbrev pub Follows : ℕ → ℕ → List Opening → Type 0
 Follows gpadl page [] = Unit {0}
-Follows gpadl page (o ∷ os) = (o.gpadl ≡ gpadl) × (o.first_page ≡ page) × Follows (gpadl + 1) (page + list_pages o.ring_pages) os
+Follows gpadl page (o ∷ os) = (o.gpadl ≡ gpadl) × (o.first_page ≡ page) × Follows (gpadl + lists_of o) (page + pages_of o) os
 
 -- a channel that a later phase opens again isn't rescinded
 abbrev pub OpensAgain : List (List Opening) → Opening → Type 0
@@ -165,7 +211,7 @@ all_openings (os ∷ phases) = os ++ all_openings phases
 abbrev pub first_gpadl : ℕ
 first_gpadl = 0xE1E10
 
--- What every plan keeps: versions of the list, at most 16 devices, whose first channels are opened in order of offer in each phase, each with its sub-channels right behind it; channels that are offered later have the relids behind those of the devices, one after the other over all phases; handles, page numbers and these relids are never used twice; and a channel that was rescinded isn't opened again
+-- What every plan keeps: versions of the list, at most 16 devices, whose first channels are opened in order of offer in each phase, each with its sub-channels right behind it, which none with buffers has; channels that are offered later have the relids behind those of the devices, one after the other over all phases; handles, page numbers and these relids are never used twice; and a channel that was rescinded isn't opened again
 pub record IsPlan (p : BusPlan) : Type 0 where
   pub guest : IsVersion p.guest.0
   pub host : IsVersion p.host.0
@@ -176,6 +222,7 @@ pub record IsPlan (p : BusPlan) : Type 0 where
   pub fits : All (λ os. All (λ o. IsOpening o) os) p.phases
   pub small : All (λ os. length os ≤ 16) p.phases
   pub seated : All (λ os. Seated 0 os) p.phases
+  pub bare : All (λ os. Bare os) p.phases
   pub offered : All (λ os. All (λ o. is_later o ≡ false → o.relid ≤ length p.kinds) os) p.phases
   pub rising : All (λ os. Rising 1 (firsts os)) p.phases
   pub later : map (λ o. o.relid) (laters (all_openings p.phases)) ≡ range_with_len (length p.kinds + 1) (length (laters (all_openings p.phases)))

@@ -8,8 +8,10 @@ use Rattle.chan_state.specs.declared.state.State.TheVariants.{Offered, Closed, R
 use Rattle.gpadl.specs.Cut.{cut}
 use Rattle.vmbus_msg.specs.declared.msg.Msg.{Msg}
 use Rattle.control_model.specs.declared.opening.Opening.{Opening}
-use Rattle.control_model.specs.Plan.{BusPlan, is_sub, subs_next, laters, in_closing_order, all_openings, movers, vp_for}
-use Rattle.control_model.specs.Messages.{propose, respond, request, delivered, connect, offer_service, pages_from, created, open_on, opened, offer_sub, modify, modified, close, teardown, torndown, rescind, release, farewell, farewell_taken}
+use Rattle.control_model.specs.declared.buffer.Buffer.{Buffer}
+use Rattle.control_model.specs.declared.buffer.Buffer.TheVariants.{Receive, Send}
+use Rattle.control_model.specs.Plan.{BusPlan, buffer_list, is_sub, subs_next, laters, in_closing_order, all_openings, movers, vp_for}
+use Rattle.control_model.specs.Messages.{propose, respond, request, delivered, connect, offer_service, pages_from, buffer_pages, created, open_on, opened, offer_sub, modify, modified, close, teardown, teardown_buffer, torndown, rescind, release, farewell, farewell_taken}
 
 -- the version that both agree on
 abbrev pub agreed : BusPlan → ℕ
@@ -35,15 +37,35 @@ abbrev pub dial_offers : ℕ → Option ℕ → List Msg
 dial_offers relid None = []
 dial_offers relid (Some port) = offer_service port relid ∷ []
 
--- a channel is opened: the guest sends its page list, which the host knows then, and opens it on that list, which the host answers
+-- once a network's channel is open, the guest sends the page lists of its buffers, the receive buffer's first, and the host knows them then, one after the other
+abbrev pub guest_buffer : Opening → Buffer → List Msg
+guest_buffer o k = cut o.relid (buffer_list o k) (buffer_pages o k)
+
+abbrev pub host_buffer : Opening → Buffer → Msg
+host_buffer o k = created o.relid (buffer_list o k)
+
+abbrev pub guest_buffers : Opening → List Msg
+guest_buffers o = if o.buffers then guest_buffer o Receive ++ guest_buffer o Send else []
+
+abbrev pub host_buffers : Opening → List Msg
+host_buffers o = if o.buffers then host_buffer o Receive ∷ host_buffer o Send ∷ [] else []
+
+-- before it is closed they are torn down, the send buffer's first
+abbrev pub guest_empties : Opening → List Msg
+guest_empties o = if o.buffers then teardown_buffer o Send ∷ teardown_buffer o Receive ∷ [] else []
+
+abbrev pub host_empties : Opening → List Msg
+host_empties o = if o.buffers then torndown (buffer_list o Send) ∷ torndown (buffer_list o Receive) ∷ [] else []
+
+-- a channel is opened: the guest sends its page list, which the host knows then, and opens it on that list, which the host answers; then come its buffers
 abbrev pub guest_lists : Opening → List Msg
-guest_lists o = cut o.relid o.gpadl (pages_from o) ++ open_on o ∷ []
+guest_lists o = cut o.relid o.gpadl (pages_from o) ++ (open_on o ∷ guest_buffers o)
 
 abbrev pub guest_opens : Opening → List Msg
 guest_opens o = dials o.dialed ++ guest_lists o
 
 abbrev pub host_opens : Opening → List Msg
-host_opens o = dial_offers o.relid o.dialed ++ (created o.relid o.gpadl ∷ opened o.relid o.relid ∷ [])
+host_opens o = dial_offers o.relid o.dialed ++ (created o.relid o.gpadl ∷ opened o.relid o.relid ∷ host_buffers o)
 
 -- once a device's first channel is open, the host offers its sub-channels together; each channel is opened in its turn
 abbrev pub host_opens_all : List Opening → List Msg
@@ -64,13 +86,13 @@ host_moves plan os = if answers_modify (agreed plan) then map (λ o. modified o.
 abbrev pub only_sub : Opening → Msg → List Msg
 only_sub o m = if is_sub o then m ∷ [] else []
 
--- a channel that is rescinded is taken back by the host, and the guest gives it back; each other one is closed: the guest closes it and tears its page list
--- down, which the host lets go; a sub-channel is taken back and given back then
+-- a channel that is rescinded is taken back by the host, and the guest gives it back; each other one is closed: the guest tears the page lists of its buffers
+-- down, closes it and tears its own page list down, which the host lets go; a sub-channel is taken back and given back then
 abbrev pub guest_closes : Opening → List Msg
-guest_closes o = if o.rescinded then release o.relid ∷ [] else close o.relid ∷ teardown o ∷ only_sub o (release o.relid)
+guest_closes o = if o.rescinded then release o.relid ∷ [] else guest_empties o ++ (close o.relid ∷ teardown o ∷ only_sub o (release o.relid))
 
 abbrev pub host_closes : Opening → List Msg
-host_closes o = if o.rescinded then rescind o.relid ∷ [] else torndown o.gpadl ∷ only_sub o (rescind o.relid)
+host_closes o = if o.rescinded then rescind o.relid ∷ [] else host_empties o ++ (torndown o.gpadl ∷ only_sub o (rescind o.relid))
 
 -- a phase opens its channels at its start and moves them, and closes them or gives them back at its end, all in order of offer of their devices: a device's first
 -- channel is opened before its sub-channels, and closed behind them

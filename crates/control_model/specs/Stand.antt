@@ -1,5 +1,6 @@
 -- Where the channels of a side stand, and the versions that a guest tries.
-use Rattle.std.specs.Prelude.{◌≡◌, ℕ, zero, suc, ◌+◌, ◌<◌, ◌≤◌, ◌==◌, Bool, true, false, List, [], ◌∷◌, ◌++◌, length, map, take, Option, Some, None, if◌then◌else◌}
+use Rattle.std.specs.Prelude.{◌≡◌, ℕ, zero, suc, ◌+◌, ◌<◌, ◌≤◌, ◌==◌, ◌||◌, Bool, true, false, List, [], ◌∷◌, ◌++◌, length, map, take, Option, Some, None, if◌then◌else◌}
+use Rattle.std.specs.List.{flat_map}
 use Rattle.contact.specs.declared.version.Version.{Version}
 use Rattle.contact.specs.Versions.{IsVersion}
 use Rattle.io_edge.specs.declared.side.Side.TheVariants.{Guest as GuestSide, Host as HostSide}
@@ -7,8 +8,9 @@ use Rattle.chan_state.specs.declared.state.State.{State}
 use Rattle.chan_state.specs.declared.state.State.TheVariants.{Offered, Closed, Released}
 use Rattle.chan_state.specs.declared.chan_state.ChanState.{ChanState}
 use Rattle.control_model.specs.declared.opening.Opening.{Opening}
+use Rattle.control_model.specs.declared.buffer.Buffer.TheVariants.{Receive, Send}
 use Rattle.control_model.specs.declared.channel.Channel.{Channel}
-use Rattle.control_model.specs.Plan.{BusPlan, phase_of, closing_of, first_subs, laters, all_openings, vp_for}
+use Rattle.control_model.specs.Plan.{BusPlan, buffer_list, is_buffer, phase_of, closing_of, first_subs, laters, all_openings, vp_for}
 use Rattle.control_model.specs.Channels.{by_relid}
 use Rattle.control_model.specs.Guest.{offered_channel}
 use Rattle.control_model.specs.Said.{ends_given_back, moved}
@@ -101,6 +103,16 @@ pub record Meet {X : Type 0} (plan : BusPlan) (v : Version) (channels : List X) 
   pub agreed : Agreed plan v
   pub stand : Stand channels count stands
 
--- the handles of page lists
+-- the handles of page lists: those of the buffers come behind that of the rings
+abbrev pub buffer_handles : Opening → List ℕ
+buffer_handles o = if o.buffers then buffer_list o Receive ∷ buffer_list o Send ∷ [] else []
+
+abbrev pub handles_of : Opening → List ℕ
+handles_of o = o.gpadl ∷ buffer_handles o
+
 abbrev pub handles : List Opening → List ℕ
-handles os = map (λ o. o.gpadl) os
+handles os = flat_map handles_of os
+
+-- an opening's list has this one
+abbrev pub has_list : Opening → ℕ → Bool
+has_list o gpadl = (o.gpadl == gpadl) || is_buffer o gpadl

@@ -1,5 +1,5 @@
 //! What one side sends at a time.
-use crate::{Moves, Opening};
+use crate::{Buffer, Moves, Opening};
 use contact::Part;
 use vmbus_msg::Msg;
 
@@ -16,6 +16,8 @@ pub enum Burst {
     Three(Msg, Msg, Msg),
     /// The page list of a channel that is being opened: GPADL_HEADER and its GPADL_BODY messages.
     PageList(Opening),
+    /// The page list of this buffer of an opening: GPADL_HEADER and its GPADL_BODY messages.
+    BufferList(Opening, Buffer),
     /// An OFFERCHANNEL for each device, and ALLOFFERS_DELIVERED.
     Offers,
     /// OPENCHANNEL_RESULT, and an OFFERCHANNEL for each sub-channel of the device whose first channel

@@ -1,4 +1,5 @@
 //! What a guest waits for.
+use crate::Buffer;
 use contact::Version;
 
 /// The next message that a guest's control waits for in a part. Openings count from 0: at the start
@@ -20,9 +21,13 @@ pub enum GuestWait {
     Created(usize),
     /// OPENCHANNEL_RESULT, for the channel of this opening.
     Opened(usize),
+    /// GPADL_CREATED, for the page list of this buffer of this opening.
+    Listed(usize, Buffer),
     /// MODIFYCHANNEL_RESPONSE, for each channel that is moved, from the opening with this number among
     /// those that are moved on.
     Modified(usize),
+    /// GPADL_TORNDOWN, for the page list of this buffer of this opening.
+    Unlisted(usize, Buffer),
     /// GPADL_TORNDOWN, for the page list of this opening.
     Torn(usize),
     /// RESCIND_CHANNELOFFER, for the channel of this opening.

@@ -1,5 +1,5 @@
 //! What a host goes on with at the end of a phase.
-use crate::HostWait;
+use crate::{HostWait, Opening};
 use chan_state::ChanState;
 
 /// How a host goes on with the next opening of a phase that ends.
@@ -14,10 +14,8 @@ pub struct HostNext {
 /// A channel that a host rescinds.
 #[derive(Clone, Copy)]
 pub struct Rescind {
-    /// Its number.
-    pub relid: u32,
+    /// Its opening, whose page lists end.
+    pub opening: Opening,
     /// How it stands then.
     pub life: ChanState,
-    /// The handle of its page list, which ends.
-    pub gpadl: u32,
 }

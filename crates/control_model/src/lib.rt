@@ -6,6 +6,7 @@
 //! (drivers/hv/channel.c) of Linux 6.12.
 #![tactic(auto)]
 
+mod buffer;
 mod burst;
 mod change;
 mod channel;
@@ -21,6 +22,7 @@ mod planning;
 mod sending;
 mod version;
 
+pub use buffer::Buffer;
 pub use burst::Burst;
 pub use change::Change;
 pub use channel::Channel;
@@ -32,5 +34,8 @@ pub use host_wait::HostWait;
 pub use moves::{Move, Moves};
 pub use opening::Opening;
 pub use plan::ControlPlan;
-pub use sending::{connect, messages, offer_service, open_on, release, teardown, type_of};
+pub use sending::{
+    buffer_list, connect, messages, offer_service, open_on, release, teardown, teardown_buffer,
+    type_of,
+};
 pub use version::version_below;

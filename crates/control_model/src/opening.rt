@@ -10,7 +10,7 @@ pub struct Opening {
     pub sub: u16,
     /// The data pages of each of its two rings, of 4,096 bytes.
     pub ring_pages: u32,
-    /// The handle of the page list that it is opened on.
+    /// The handle of the page list that it is opened on, its rings'.
     pub gpadl: u32,
     /// The number of the list's first page. The others follow it.
     pub first_page: u64,
@@ -22,4 +22,7 @@ pub struct Opening {
     /// The port of the service that the guest asks for, where this is its channel: the host offers it
     /// then, and doesn't at the contact.
     pub dialed: Option<u32>,
+    /// Whether it is a network's, which has two buffers beside its rings. Their page lists have the two
+    /// handles and the pages behind those of the rings' list, the receive buffer's first.
+    pub buffers: bool,
 }

@@ -1,8 +1,8 @@
 //! What both controls know from the start.
-ghost use Rattle.std.specs.Prelude.{◌≡◌, ◌+◌, ◌^◌, ◌<◌, ◌≤◌, ◌==◌, drop, length, slice_get, IfOk, IfSome, OnSome, IsTrue};
+ghost use Rattle.std.specs.Prelude.{◌≡◌, ◌+◌, ◌^◌, ◌<◌, ◌≤◌, ◌==◌, drop, length, map, slice_get, IfOk, IfSome, OnSome, IsTrue};
 ghost use Rattle.std.specs.List.{position};
 ghost use Rattle.contact.specs.Versions.{IsVersion};
-ghost use Rattle.control_model.specs.Plan.{phase_of, opening_at, closing_at, opening_in, first_subs, subs_next, subs_behind, movers, movers_in, part_after, IsOpening, Seated};
+ghost use Rattle.control_model.specs.Plan.{phase_of, is_buffer, is_buffer_in, openings_in, opening_at, closing_at, opening_in, first_subs, subs_next, subs_behind, movers, movers_in, part_after, IsOpening, IsPlan, Seated};
 ghost use Rattle.control_model.specs.Dealing.{is_first_at, closing_place};
 ghost use Rattle.control_model.specs.Openings.{plan_of};
 ghost use Rattle.control_model.specs.Sock.{sock_plan};
@@ -69,6 +69,7 @@ impl ControlPlan {
             rescinded: true,
             vp: None,
             dialed: Some(port),
+            buffers: false,
         });
         let mut phases = Vec::with_capacity(alloc, 1)?;
         phases.push_reserved(openings);
@@ -78,6 +79,24 @@ impl ControlPlan {
             kinds: Vec::new(alloc),
             phases,
         })
+    }
+
+    /// The plan of these versions, devices and openings, for a caller without a script.
+    pub fn new(
+        guest: Version,
+        host: Version,
+        kinds: Vec<Kind>,
+        phases: Vec<Vec<Opening>>,
+    ) -> ControlPlan
+        requires plan { IsPlan (record { guest = guest; host = host; kinds = kinds.items; phases = map (λ phase. phase.items) phases.items }) }
+        ensures made { result ≡ record { guest = guest; host = host; kinds = kinds.items; phases = map (λ phase. phase.items) phases.items } }
+    {
+        ControlPlan {
+            guest,
+            host,
+            kinds,
+            phases,
+        }
     }
 
     /// The guest's highest version.
@@ -170,6 +189,27 @@ impl ControlPlan {
         mover_at(self.with_movers(part, can_modify), number)
     }
 
+    /// Whether a handle is that of a buffer's page list, of the channel with this relid, among the openings
+    /// of the phase that starts or ends in a part.
+    pub fn is_buffer(&self, part: Option<Part>, relid: u32, gpadl: u32) -> bool
+        ensures { result ≡ is_buffer_in self.now part relid gpadl }
+    {
+        self.openings_in(part)
+            .iter()
+            .any(|o| o.relid == relid && is_buffer(o, gpadl))
+    }
+
+    // The openings of the phase that starts or ends in a part.
+    fn openings_in(&self, part: Option<Part>) -> &[Opening]
+        ensures { result.now ≡ openings_in self.now part }
+    {
+        match part {
+            Some(Part::PhaseStart(phase)) => self.phase(phase),
+            Some(Part::PhaseEnd(phase)) => self.phase(phase),
+            _ => &[],
+        }
+    }
+
     // The openings of a phase.
     fn phase(&self, phase: u32) -> &[Opening]
         ensures openings { result.now ≡ phase_of self.now phase }
@@ -211,6 +251,15 @@ impl ControlPlan {
         }
         None
     }
+}
+
+// Whether an opening has buffers, and a handle is that of the page list of one of them.
+fn is_buffer(o: &Opening, gpadl: u32) -> bool
+    ensures { result ≡ is_buffer o.now gpadl }
+{
+    let rings = u64::from(o.gpadl);
+    let handle = u64::from(gpadl);
+    o.buffers && (rings + 1 == handle || rings + 2 == handle)
 }
 
 // The sub-channels of the device whose first channel stands at a place.

@@ -6,9 +6,9 @@ ghost use Rattle.contact.specs.Classes.{offered_kind};
 ghost use Rattle.script_lines.specs.Lines.{is_phase};
 ghost use Rattle.script_lines.specs.Parts.{offered_by, offered, kind_of, ring_pages_of, rescinds, shuts};
 ghost use Rattle.script_phases.specs.Openings.{phases, subs_of, opened_from, others};
-ghost use Rattle.control_model.specs.Plan.{first_gpadl, list_pages};
+ghost use Rattle.control_model.specs.Plan.{first_gpadl, lists_with, pages_with};
 ghost use Rattle.script_phases.specs.Agreed.{guest_in, host_in};
-ghost use Rattle.control_model.specs.Openings.{numbered, openings_from, pages_in, vp_at};
+ghost use Rattle.control_model.specs.Openings.{numbered, openings_from, lists_in, pages_in, vp_at, has_buffers};
 ghost use Rattle.control_model.specs.Dealing.{served_of, speaks_to, channels_if, opens_one, ends, ended_before, rescinded_in, vp_in, fate_in, opens, size_in, HasSizes, Dealt, rest_of};
 
 use crate::Opening;
@@ -256,14 +256,14 @@ pub fn openings(
     requires all { length devices.now ≡ length specs.now }
     requires subs { All (λ spec. subs_of spec ≤ 3) specs.now }
     requires sizes { HasSizes devices.now }
-    requires gpadl { next.old.gpadl + 64 < 2 ^ 32 }
-    requires page { next.old.page + 64 * 34 < 2 ^ 64 }
+    requires gpadl { next.old.gpadl + 64 * 3 < 2 ^ 32 }
+    requires page { next.old.page + 64 * 162 < 2 ^ 64 }
     requires relid { next.old.relid + 64 < 2 ^ 32 }
     ensures openings { IfOk result (λ os. os.items ≡ openings_from (size_in devices.now) (fate_in part.now) next.old.gpadl next.old.page (opened_from (opens devices.now part.now start) 0 next.old.relid specs.now)) }
-    ensures gpadl { OnOk result (next.new.gpadl ≡ next.old.gpadl + length (opened_from (opens devices.now part.now start) 0 next.old.relid specs.now)) }
+    ensures gpadl { OnOk result (next.new.gpadl ≡ next.old.gpadl + lists_in (opened_from (opens devices.now part.now start) 0 next.old.relid specs.now)) }
     ensures page { OnOk result (next.new.page ≡ next.old.page + pages_in (size_in devices.now) (opened_from (opens devices.now part.now start) 0 next.old.relid specs.now)) }
     ensures relid { OnOk result (next.new.relid ≡ next.old.relid + length (others (opened_from (opens devices.now part.now start) 0 next.old.relid specs.now))) }
-    ensures few_more { OnOk result ((next.new.gpadl ≤ next.old.gpadl + 64) × (next.new.page ≤ next.old.page + 64 * 34) × (next.new.relid ≤ next.old.relid + 64)) }
+    ensures few_more { OnOk result ((next.new.gpadl ≤ next.old.gpadl + 64 * 3) × (next.new.page ≤ next.old.page + 64 * 162) × (next.new.relid ≤ next.old.relid + 64)) }
 {
     let mut openings = Vec::new(alloc);
     for (i, device) in devices.iter().enumerate() {
@@ -282,7 +282,7 @@ pub fn openings(
     Ok(openings)
 }
 
-// Opens the channels of a device, where that is so: each takes the next handle and the next pages, and
+// Opens the channels of a device, where that is so: each takes the next handles and the next pages, and
 // each sub-channel the next relid.
 fn deal(
     opened: bool,
@@ -296,37 +296,39 @@ fn deal(
     requires size { ring_pages ≤ 16 }
     requires number { number < 16 }
     requires subs { subs_of spec ≤ 3 }
-    requires gpadl { next.old.gpadl + 4 < 2 ^ 32 }
-    requires page { next.old.page + 4 * 34 < 2 ^ 64 }
+    requires gpadl { next.old.gpadl + 4 * 3 < 2 ^ 32 }
+    requires page { next.old.page + 4 * 162 < 2 ^ 64 }
     requires relid { next.old.relid + 4 < 2 ^ 32 }
     ensures dealt { OnOk result (Dealt (channels_if opened number spec next.old.relid) ring_pages fate openings.old.items next.old openings.new.items next.new) }
-    ensures few { OnOk result ((next.new.gpadl ≤ next.old.gpadl + 4) × (next.new.page ≤ next.old.page + 4 * 34) × (next.new.relid ≤ next.old.relid + 4)) }
+    ensures few { OnOk result ((next.new.gpadl ≤ next.old.gpadl + 4 * 3) × (next.new.page ≤ next.old.page + 4 * 162) × (next.new.relid ≤ next.old.relid + 4)) }
 {
     if opened {
-        open(number + 1, 0, ring_pages, fate, openings, next)?;
+        let buffers = has_buffers(spec);
+        open(number + 1, 0, ring_pages, fate, buffers, openings, next)?;
         for i in 0..subs_of(spec) {
             let relid = next.relid;
             next.relid += 1;
-            open(relid, i + 1, ring_pages, fate, openings, next)?;
+            open(relid, i + 1, ring_pages, fate, buffers, openings, next)?;
         }
     }
     Ok(())
 }
 
-// Opens a channel: it takes the next handle and the next pages.
+// Opens a channel: it takes the next handles and the next pages.
 fn open(
     relid: u32,
     sub: u16,
     ring_pages: u32,
     fate: Fate,
+    buffers: bool,
     openings: &mut Vec<Opening>,
     next: &mut Next,
 ) -> Result<(), AllocError>
     requires size { ring_pages ≤ 16 }
-    requires gpadl { next.old.gpadl + 1 < 2 ^ 32 }
-    requires page { next.old.page + 34 < 2 ^ 64 }
-    ensures opened { OnOk result (openings.new.items ≡ openings.old.items ++ record { relid = relid; sub = sub; ring_pages = ring_pages; gpadl = next.old.gpadl; first_page = next.old.page; rescinded = fate.rescinded; vp = vp_at fate.vp sub; dialed = None } ∷ []) }
-    ensures next { OnOk result (next.new ≡ record { gpadl = next.old.gpadl + 1; page = next.old.page + list_pages ring_pages; relid = next.old.relid }) }
+    requires gpadl { next.old.gpadl + 3 < 2 ^ 32 }
+    requires page { next.old.page + 162 < 2 ^ 64 }
+    ensures opened { OnOk result (openings.new.items ≡ openings.old.items ++ record { relid = relid; sub = sub; ring_pages = ring_pages; gpadl = next.old.gpadl; first_page = next.old.page; rescinded = fate.rescinded; vp = vp_at fate.vp sub; dialed = None; buffers = buffers } ∷ []) }
+    ensures next { OnOk result (next.new ≡ record { gpadl = next.old.gpadl + lists_with buffers; page = next.old.page + pages_with buffers ring_pages; relid = next.old.relid }) }
 {
     openings.push(Opening {
         relid,
@@ -337,10 +339,35 @@ fn open(
         rescinded: fate.rescinded,
         vp: vp_at(fate.vp, sub),
         dialed: None,
+        buffers,
     })?;
-    next.gpadl += 1;
-    next.page += 2 * u64::from(ring_pages) + 2;
+    next.gpadl += lists_with(buffers);
+    next.page += pages_with(buffers, ring_pages);
     Ok(())
+}
+
+// How many page lists an opening has: that of its rings, and those of its two buffers.
+fn lists_with(buffers: bool) -> u32
+    ensures { result ≡ lists_with buffers }
+{
+    if buffers { 3 } else { 1 }
+}
+
+// How many pages they have together: for each ring a header page and its data pages, and for each buffer
+// 64.
+fn pages_with(buffers: bool, ring_pages: u32) -> u64
+    requires { ring_pages ≤ 16 }
+    ensures { result ≡ pages_with buffers ring_pages }
+{
+    let rings = 2 * u64::from(ring_pages) + 2;
+    if buffers { rings + 128 } else { rings }
+}
+
+// Whether a device is a network, which has buffers.
+fn has_buffers(spec: DeviceSpec) -> bool
+    ensures { result ≡ has_buffers spec }
+{
+    matches!(spec, DeviceSpec::Net { .. })
 }
 
 // How many channels a device has beside its first one.

@@ -4,14 +4,17 @@ ghost use Rattle.std.specs.Prelude.{◌≡◌, ◌+◌, ◌^◌, ◌<◌, ◌≤
 ghost use Rattle.contact.specs.Classes.{offers_from};
 ghost use Rattle.gpadl.specs.Cut.{AreMessagesOf};
 ghost use Rattle.vmbus_msg.specs.Grammar.{type_of};
-ghost use Rattle.control_model.specs.Plan.{IsOpening, subs_behind};
-ghost use Rattle.control_model.specs.Messages.{connect, offer_service, open_on, teardown, release, delivered, offer_sub, pages_from, modify_one, Sends, Fits};
+ghost use Rattle.control_model.specs.Plan.{IsOpening, buffer_list, buffer_begins, buffer_size, subs_behind};
+ghost use Rattle.control_model.specs.Messages.{connect, offer_service, open_on, teardown, teardown_buffer, release, delivered, offer_sub, pages_from, buffer_pages, modify_one, Sends, Fits};
 
-use crate::{Burst, ControlPlan, Move, Moves, Opening};
+use crate::{Buffer, Burst, ControlPlan, Move, Moves, Opening};
 use contact::{Kind, Part, offer, offers, service_id};
 use gpadl::to_messages;
 use std::alloc::{AllocError, Global};
 use vmbus_msg::Msg;
+
+// The pages of a buffer.
+const BUFFER_SIZE: u32 = 64;
 
 /// TL_CONNECT_REQUEST, for the channel of the service at a port.
 pub fn connect(port: u32) -> Msg
@@ -55,6 +58,29 @@ pub fn teardown(o: &Opening) -> Msg
         padding: 0,
         relid: o.relid,
         gpadl: o.gpadl,
+    }
+}
+
+/// The handle of the page list of a buffer.
+pub fn buffer_list(o: &Opening, buffer: Buffer) -> u32
+    requires { IsOpening o.now }
+    ensures { result ≡ buffer_list o.now buffer }
+{
+    match buffer {
+        Buffer::Receive => o.gpadl + 1,
+        Buffer::Send => o.gpadl + 2,
+    }
+}
+
+/// GPADL_TEARDOWN, for the page list of a buffer.
+pub fn teardown_buffer(o: &Opening, buffer: Buffer) -> Msg
+    requires { IsOpening o.now }
+    ensures { result ≡ teardown_buffer o.now buffer }
+{
+    Msg::GpadlTeardown {
+        padding: 0,
+        relid: o.relid,
+        gpadl: buffer_list(o, buffer),
     }
 }
 
@@ -105,6 +131,7 @@ pub fn messages(alloc: Global, plan: &ControlPlan, burst: &Burst) -> Result<Vec<
         Burst::Two(m, n) => two(alloc, m, n),
         Burst::Three(m, n, o) => three(alloc, m, n, o),
         Burst::PageList(o) => page_list(alloc, o),
+        Burst::BufferList(o, buffer) => buffer_pages(alloc, o, *buffer),
         Burst::Offers => all_offers(alloc, plan),
         Burst::Opens(m, part, place) => with_offers(alloc, plan, m, *part, *place),
         Burst::Moves(moves) => modifies(alloc, moves),
@@ -150,6 +177,29 @@ fn page_list(alloc: Global, o: &Opening) -> Result<Vec<Msg>, AllocError>
     let count = 2 * o.ring_pages + 2;
     let pages = numbers(alloc, o.first_page, count)?;
     to_messages(alloc, o.relid, o.gpadl, pages.as_slice())
+}
+
+// The page list of a buffer.
+fn buffer_pages(alloc: Global, o: &Opening, buffer: Buffer) -> Result<Vec<Msg>, AllocError>
+    requires { IsOpening o.now }
+    ensures sends { IfOk result (λ sent. AreMessagesOf o.now.relid (buffer_list o.now buffer) (buffer_pages o.now buffer) sent.items) }
+    ensures few { IfOk result (λ sent. length sent.items ≤ 3) }
+{
+    let pages = numbers(alloc, buffer_begins(o, buffer), BUFFER_SIZE)?;
+    to_messages(alloc, o.relid, buffer_list(o, buffer), pages.as_slice())
+}
+
+// The first page of a buffer.
+fn buffer_begins(o: &Opening, buffer: Buffer) -> u64
+    requires { IsOpening o.now }
+    ensures begins { result ≡ buffer_begins o.now buffer }
+    ensures room { result + buffer_size < 2 ^ 64 }
+{
+    let rings = o.first_page + u64::from(2 * o.ring_pages + 2);
+    match buffer {
+        Buffer::Receive => rings,
+        Buffer::Send => rings + u64::from(BUFFER_SIZE),
+    }
 }
 
 // So many page numbers, from this one on.

@@ -80,8 +80,8 @@ impl GuestControl {
         Ok(GuestControl::of_plan(alloc, plan))
     }
 
-    // The control of a plan, before its first part.
-    fn of_plan(alloc: Global, plan: ControlPlan) -> GuestControl
+    /// The control of a plan, before its first part.
+    pub fn of_plan(alloc: Global, plan: ControlPlan) -> GuestControl
         ensures made { result ≡ new_guest plan }
         ensures plan { IsPlan result.plan }
     {

@@ -1,15 +1,16 @@
 //! A page list is sent, and its channel opened once the host knows it.
-ghost use Rattle.std.specs.Prelude.{◌≡◌, Some, IfOk};
+ghost use Rattle.std.specs.Prelude.{◌≡◌, ◌+◌, ◌^◌, ◌<◌, Some, IfOk};
 ghost use Rattle.control_model.specs.Plan.{opening_in, IsOpening};
 ghost use Rattle.control_model.specs.Channels.{by_relid, lived};
-ghost use Rattle.control_model.specs.Guest.{IsFit, lists, dials_one, lists_next, opens, created_for, created_while, on_created};
+ghost use Rattle.control_model.specs.Guest.{IsFit, lists, dials_one, lists_next, opens, created_for, created_while, fills, filled, filled_for, on_created};
 
 use crate::GuestControl;
 use crate::turns::lived;
 use chan_state::Event;
 use contact::Part;
 use control_model::{
-    Burst, Change, Channel, ControlFault, GuestTurn, GuestWait, Opening, connect, open_on,
+    Buffer, Burst, Change, Channel, ControlFault, GuestTurn, GuestWait, Opening, buffer_list,
+    connect, open_on,
 };
 
 impl GuestControl {
@@ -57,7 +58,8 @@ impl GuestControl {
         }
     }
 
-    // GPADL_CREATED: the channel is opened, where it is of the page list that was sent.
+    // GPADL_CREATED: the channel is opened, where it is of the page list that was sent; where it is of
+    // that of a buffer, no channel goes on.
     pub(crate) fn on_created(
         &self,
         relid: u32,
@@ -72,6 +74,9 @@ impl GuestControl {
         };
         match self.awaits {
             GuestWait::Created(place) => Ok(self.created(place, relid, gpadl, status, channel)),
+            GuestWait::Listed(place, buffer) => {
+                Ok(self.filled_for(place, buffer, relid, gpadl, status))
+            }
             _ => Ok(self.idle()),
         }
     }
@@ -93,6 +98,61 @@ impl GuestControl {
                 self.open(place, o, channel)
             }
             _ => self.idle(),
+        }
+    }
+
+    // The same, while the page list of a buffer waits for it.
+    fn filled_for(
+        &self,
+        place: usize,
+        buffer: Buffer,
+        relid: u32,
+        gpadl: u32,
+        status: u32,
+    ) -> GuestTurn
+        ensures turn { result ≡ filled_for self.now place buffer relid gpadl status (opening_in self.now.plan self.now.part place) }
+        ensures fits { IsFit self.now result }
+    {
+        match self.plan.opening(self.part, place) {
+            Some(o) if o.relid == relid && buffer_list(&o, buffer) == gpadl && status == 0 => {
+                self.filled(self.idle(), place, o, buffer)
+            }
+            _ => self.idle(),
+        }
+    }
+
+    // The page list of the send buffer is sent behind that of the receive buffer, and behind both the
+    // guest goes on.
+    fn filled(&self, turn: GuestTurn, place: usize, o: Opening, buffer: Buffer) -> GuestTurn
+        requires turn { IsFit self.now turn }
+        requires opening { IsOpening o }
+        requires small { place + 1 < 2 ^ 64 }
+        ensures turn { result ≡ filled self.now turn place o buffer }
+        ensures fits { IsFit self.now result }
+    {
+        match buffer {
+            Buffer::Receive => self.fill(turn, place, o, Buffer::Send),
+            Buffer::Send => self.open_next(turn, place, &o),
+        }
+    }
+
+    // The page list of a buffer is sent.
+    pub(crate) fn fill(
+        &self,
+        turn: GuestTurn,
+        place: usize,
+        o: Opening,
+        buffer: Buffer,
+    ) -> GuestTurn
+        requires turn { IsFit self.now turn }
+        requires opening { IsOpening o }
+        ensures turn { result ≡ fills turn place o buffer }
+        ensures fits { IsFit self.now result }
+    {
+        GuestTurn {
+            awaits: GuestWait::Listed(place, buffer),
+            burst: Burst::BufferList(o, buffer),
+            ..turn
         }
     }
 

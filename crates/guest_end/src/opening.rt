@@ -1,13 +1,13 @@
 //! A channel is open.
 ghost use Rattle.std.specs.Prelude.{◌≡◌, ◌+◌, ◌^◌, ◌<◌, IfOk};
-ghost use Rattle.control_model.specs.Plan.{opening_in};
+ghost use Rattle.control_model.specs.Plan.{opening_in, IsOpening};
 ghost use Rattle.control_model.specs.Channels.{by_relid};
-ghost use Rattle.control_model.specs.Guest.{IsFit, on_result, opens_next, opened_for, opened_while};
+ghost use Rattle.control_model.specs.Guest.{IsFit, on_result, opens_next, opens_with, opened_for, opened_while};
 
 use crate::GuestControl;
 use crate::turns::lived;
 use chan_state::Event;
-use control_model::{Change, ControlFault, GuestTurn, GuestWait, Opening};
+use control_model::{Buffer, Change, ControlFault, GuestTurn, GuestWait, Opening};
 
 impl GuestControl {
     // OPENCHANNEL_RESULT: where it is of the channel that was opened last, and says that it is open,
@@ -37,14 +37,28 @@ impl GuestControl {
         ensures fits { IsFit self.now result }
     {
         match self.plan.opening(self.part, place) {
-            Some(o) if o.relid == relid && status == 0 => self.open_next(turn, place, &o),
+            Some(o) if o.relid == relid && status == 0 => self.open_with(turn, place, &o),
             _ => turn,
         }
     }
 
+    // A channel is open: the page lists of its buffers are sent, where it has some.
+    fn open_with(&self, turn: GuestTurn, place: usize, o: &Opening) -> GuestTurn
+        requires fits { IsFit self.now turn }
+        requires opening { IsOpening o.now }
+        requires small { place + 1 < 2 ^ 64 }
+        ensures turn { result ≡ opens_with self.now turn place o.now o.now.buffers }
+        ensures fits { IsFit self.now result }
+    {
+        if o.buffers {
+            return self.fill(turn, place, *o, Buffer::Receive);
+        }
+        self.open_next(turn, place, o)
+    }
+
     // Goes on behind a channel that is open: with the offers of its device's sub-channels, where it is
     // the first channel and its device has some, and with the next opening otherwise.
-    fn open_next(&self, turn: GuestTurn, place: usize, o: &Opening) -> GuestTurn
+    pub(crate) fn open_next(&self, turn: GuestTurn, place: usize, o: &Opening) -> GuestTurn
         requires fits { IsFit self.now turn }
         requires small { place + 1 < 2 ^ 64 }
         ensures turn { result ≡ opens_next self.now turn place o.now (opening_in self.now.plan self.now.part (place + 1)) }

@@ -1,20 +1,25 @@
 //! A channel is closed, and its page list let go; and what comes after a channel that is done with.
 ghost use Rattle.std.specs.Prelude.{◌≡◌, slice_get, Some, IfOk, IsTrue};
-ghost use Rattle.control_model.specs.Plan.{opening_in};
+ghost use Rattle.control_model.specs.Plan.{opening_in, IsOpening};
+ghost use Rattle.control_model.specs.Messages.{Fits};
+ghost use Rattle.control_model.specs.declared.guest_wait.GuestWait.TheVariants.{Unlisted};
 ghost use Rattle.control_model.specs.Channels.{by_relid, lived, place_of_list};
-ghost use Rattle.control_model.specs.Guest.{IsFit, and_close, closes, closes_next, on_torndown, torn_at, torn_for, ended_for, torn_while};
+ghost use Rattle.control_model.specs.Guest.{IsFit, and_empty, and_close, empties, closes, closes_one, closes_next, emptied, torn_rings, on_torndown, torn_at, torn_for, ended_for, torn_while};
 
 use crate::GuestControl;
 use crate::turns::lived;
 use chan_state::Event;
 use contact::Part;
-use control_model::{Burst, Change, ControlFault, GuestTurn, GuestWait, Opening, teardown};
+use control_model::{
+    Buffer, Burst, Change, ControlFault, GuestTurn, GuestWait, Opening, buffer_list, teardown,
+    teardown_buffer,
+};
 use gpadl::GpadlFault;
 use vmbus_msg::Msg;
 
 impl GuestControl {
-    // Goes on with the opening at a place, if there is one: its channel is closed, or waits for the
-    // host to rescind it.
+    // Goes on with the opening at a place, if there is one: its channel is closed, once the page lists of
+    // its buffers are torn down; or it waits for the host to rescind it.
     pub(crate) fn close_next(&self, turn: GuestTurn, part: Option<Part>, place: usize) -> GuestTurn
         requires { IsFit self.now turn }
         ensures turn { result ≡ closes_next turn self.now.channels place (opening_in self.now.plan part place) }
@@ -25,17 +30,41 @@ impl GuestControl {
                 awaits: GuestWait::Rescinded(place),
                 ..turn
             },
-            Some(o) => self.close(
-                GuestTurn {
-                    awaits: GuestWait::Torn(place),
-                    ..turn
-                },
-                &o,
-            ),
+            Some(o) if o.buffers => self.empty(turn, place, &o, Buffer::Send),
+            Some(o) => self.close_rings(turn, place, &o),
             None => GuestTurn {
                 awaits: GuestWait::Nothing,
                 ..turn
             },
+        }
+    }
+
+    // The channel of an opening is closed.
+    fn close_rings(&self, turn: GuestTurn, place: usize, o: &Opening) -> GuestTurn
+        requires { IsFit self.now turn }
+        ensures turn { result ≡ closes_one turn self.now.channels place o.now }
+        ensures fits { IsFit self.now result }
+    {
+        self.close(
+            GuestTurn {
+                awaits: GuestWait::Torn(place),
+                ..turn
+            },
+            o,
+        )
+    }
+
+    // The page list of a buffer is torn down.
+    fn empty(&self, turn: GuestTurn, place: usize, o: &Opening, buffer: Buffer) -> GuestTurn
+        requires turn { IsFit self.now turn }
+        requires opening { IsOpening o.now }
+        ensures turn { result ≡ empties turn place o.now buffer }
+        ensures fits { IsFit self.now result }
+    {
+        GuestTurn {
+            awaits: GuestWait::Unlisted(place, buffer),
+            burst: and_empty(&turn.burst, o, buffer),
+            ..turn
         }
     }
 
@@ -61,10 +90,45 @@ impl GuestControl {
         }
     }
 
+    // GPADL_TORNDOWN: where it is of the buffer whose page list is being torn down, no channel goes on.
+    pub(crate) fn on_torndown(&self, gpadl: u32) -> Result<GuestTurn, ControlFault>
+        ensures turn { result ≡ on_torndown self.now self.now.awaits gpadl }
+        ensures fits { IfOk result (λ turn. IsFit self.now turn) }
+    {
+        match self.awaits {
+            GuestWait::Unlisted(place, buffer) => self.unlisted(place, buffer, gpadl),
+            _ => self.torn_rings(gpadl),
+        }
+    }
+
+    // The same, while the page list of a buffer waits for it.
+    fn unlisted(&self, place: usize, buffer: Buffer, gpadl: u32) -> Result<GuestTurn, ControlFault>
+        ensures turn { result ≡ on_torndown self.now (Unlisted place buffer) gpadl }
+        ensures fits { IfOk result (λ turn. IsFit self.now turn) }
+    {
+        match self.plan.opening(self.part, place) {
+            Some(o) if buffer_list(&o, buffer) == gpadl => Ok(self.emptied(place, &o, buffer)),
+            _ => self.torn_rings(gpadl),
+        }
+    }
+
+    // The page list of the receive buffer is torn down behind that of the send buffer, and behind both
+    // the channel is closed.
+    fn emptied(&self, place: usize, o: &Opening, buffer: Buffer) -> GuestTurn
+        requires { IsOpening o.now }
+        ensures turn { result ≡ emptied self.now place o.now buffer }
+        ensures fits { IsFit self.now result }
+    {
+        match buffer {
+            Buffer::Receive => self.close_rings(self.idle(), place, o),
+            Buffer::Send => self.empty(self.idle(), place, o, Buffer::Receive),
+        }
+    }
+
     // GPADL_TORNDOWN: where it is of the channel that was closed last, the guest goes on with the next
     // opening.
-    pub(crate) fn on_torndown(&self, gpadl: u32) -> Result<GuestTurn, ControlFault>
-        ensures turn { result ≡ on_torndown self.now gpadl (place_of_list self.now.channels gpadl) }
+    fn torn_rings(&self, gpadl: u32) -> Result<GuestTurn, ControlFault>
+        ensures turn { result ≡ torn_rings self.now gpadl (place_of_list self.now.channels gpadl) }
         ensures fits { IfOk result (λ turn. IsFit self.now turn) }
     {
         let Some(place) = self.place_of_list(gpadl) else {
@@ -150,6 +214,19 @@ impl GuestControl {
             Some(channel) => self.rising.is_some() && channel.gpadl == Some(gpadl),
             None => false,
         }
+    }
+}
+
+// GPADL_TEARDOWN, for the page list of a buffer, behind the one message, if any, that is sent before it.
+fn and_empty(before: &Burst, o: &Opening, buffer: Buffer) -> Burst
+    requires { IsOpening o.now }
+    ensures burst { result ≡ and_empty before.now o.now buffer }
+    ensures fits { Fits result }
+{
+    let torn = teardown_buffer(o, buffer);
+    match before {
+        Burst::One(m) => Burst::Two(*m, torn),
+        _ => Burst::One(torn),
     }
 }
 

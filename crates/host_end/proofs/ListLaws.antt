@@ -17,12 +17,13 @@ use Rattle.host_end.specs.Feeding.{Comes, list_made, with_mail}
 pub record Makes (h : HostSeen) (lists : Assembly) (building : Option Partial) (relid handle : ℕ) : Type 0 where
   pub list : Partial
   pub of : list.relid ≡ relid
+  pub named : list.handle ≡ handle
   pub turn : lists_by h lists building ≡ record (at_rest h) { awaits = listed h h.awaits list; lists = lists; burst = One (created relid handle) }
 
 makes_whole : (h : HostSeen) (lists : Assembly) (p : Partial) (relid handle : ℕ) → length p.pages ≡ p.want → p.relid ≡ relid → p.handle ≡ handle → Makes h lists (Some p) relid handle
 makes_whole h lists p relid handle whole of named =
     let here : (length p.pages == p.want) ≡ true = eq-eqb (length p.pages) p.want whole in
-    record { list = p; of = of; turn = rw (here, of, named) refl }
+    record { list = p; of = of; named = named; turn = rw (here, of, named) refl }
 
 abbrev relid_in : Option (ℕ × ℕ) → ℕ
 relid_in None = 0
@@ -43,11 +44,11 @@ piece_makes h lists m (Done list) now relid handle took made =
 -- the piece is taken, and GPADL_CREATED is sent
 pub came_whole : (h : HostSeen) (m : Msg) (progress : Progress) (now : Assembly) (relid handle : ℕ) (awaits : HostWait) (new : HostSeen) (before after : Mail)
     → fault_of h.lists m ≡ None → Taken h.lists m progress now → now ≡ next h.lists m → list_made progress ≡ Some (relid, handle)
-    → ((p : Partial) → p.relid ≡ relid → awaits ≡ listed h h.awaits p)
+    → ((p : Partial) → p.relid ≡ relid → p.handle ≡ handle → awaits ≡ listed h h.awaits p)
     → new ≡ record { plan = h.plan; part = h.part; awaits = awaits; version = h.version; channels = h.channels; lists = now; posted = h.posted ++ created relid handle ∷ []; fed = h.fed ++ m ∷ [] }
     → after ≡ with_mail before (created relid handle ∷ []) → Comes (on_piece h m (fault_of h.lists m)) h new m before after (Ok (tt {0}))
 came_whole h m progress now relid handle awaits new before after right took is made waits changed mail =
     let whole = piece_makes h (next h.lists m) m progress now relid handle took made in
     let F : Assembly → HostWait → HostSeen = λ lists w. record { plan = h.plan; part = h.part; awaits = w; version = h.version; channels = h.channels; lists = lists; posted = h.posted ++ created relid handle ∷ []; fed = h.fed ++ m ∷ [] } in
-    let there : new ≡ F (next h.lists m) (listed h h.awaits whole.list) = changed ∙ ap (λ x. F x awaits) is ∙ ap (F (next h.lists m)) (waits whole.list whole.of) in
+    let there : new ≡ F (next h.lists m) (listed h h.awaits whole.list) = changed ∙ ap (λ x. F x awaits) is ∙ ap (F (next h.lists m)) (waits whole.list whole.of whole.named) in
     rw (right, whole.turn) (record { sent = created relid handle ∷ []; sends = refl; now = there; mail = mail })

@@ -48,7 +48,7 @@ pub(crate) fn created(relid: u32, gpadl: u32) -> Msg
 }
 
 // GPADL_TORNDOWN: the page list was let go.
-fn torndown(gpadl: u32) -> Msg
+pub(crate) fn torndown(gpadl: u32) -> Msg
     ensures { result ≡ torndown gpadl }
 {
     Msg::GpadlTorndown { padding: 0, gpadl }
@@ -79,11 +79,11 @@ pub(crate) fn and_rescind(answer: Option<Msg>, rescinds: Option<Rescind>) -> Bur
     match answer {
         None => match rescinds {
             None => Burst::Empty,
-            Some(r) => Burst::One(rescind(r.relid)),
+            Some(r) => Burst::One(rescind(r.opening.relid)),
         },
         Some(m) => match rescinds {
             None => Burst::One(m),
-            Some(r) => Burst::Two(m, rescind(r.relid)),
+            Some(r) => Burst::Two(m, rescind(r.opening.relid)),
         },
     }
 }

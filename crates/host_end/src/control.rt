@@ -65,8 +65,8 @@ impl HostControl {
         Ok(HostControl::of_plan(alloc, plan))
     }
 
-    // The control of a plan, before its first part.
-    fn of_plan(alloc: Global, plan: ControlPlan) -> HostControl
+    /// The control of a plan, before its first part.
+    pub fn of_plan(alloc: Global, plan: ControlPlan) -> HostControl
         ensures { result ≡ new_host plan }
     {
         HostControl {

@@ -3,16 +3,16 @@ ghost use Rattle.std.specs.Prelude.{◌≡◌, ◌+◌, ◌≤◌, length, map, 
 ghost use Rattle.control_model.specs.Channels.{by_relid, row_of};
 ghost use Rattle.chan_state.specs.declared.event.Event.TheVariants.{TeardownSeen};
 ghost use Rattle.control_model.specs.Plan.{opening_in};
-ghost use Rattle.control_model.specs.Host.{on_contact, on_request, on_close, on_teardown, teardown_by, on_release, on_unload, waits_list, is_of, closed_then, offered_life};
+ghost use Rattle.control_model.specs.Host.{on_contact, on_request, on_close, on_teardown, empties_one, emptied_then, teardown_by, on_release, on_unload, waits_list, is_of, closed_then, offered_life};
 ghost use Rattle.host_end.specs.Feeding.{Comes};
 
 use crate::HostControl;
-use crate::answers::{and_rescind, is_rescinded, respond, torn_answer};
+use crate::answers::{and_rescind, is_rescinded, respond, torn_answer, torndown};
 use crate::ending::{end_list, put_rescinded};
-use crate::lists::tear_list;
+use crate::lists::{let_go, tear_list};
 use chan_state::{ChanState, Event};
 use contact::{Kind, Part, Version, host_accepts};
-use control_model::{Burst, ControlFault, HostWait};
+use control_model::{Buffer, Burst, ControlFault, HostWait, buffer_list};
 use gpadl::GpadlFault;
 use io_edge::Side;
 use mail_box::MailBox;
@@ -128,7 +128,8 @@ impl HostControl {
     }
 
     // GPADL_TEARDOWN names a live list, unless its channel is rescinded; it goes by the table, and is
-    // answered where the table says so. The list isn't live any more then.
+    // answered where the table says so. The list isn't live any more then. That of a buffer is answered
+    // by itself, and no channel goes on.
     pub(crate) fn hear_teardown(
         &mut self,
         m: &Msg,
@@ -146,9 +147,47 @@ impl HostControl {
             return self.tear_down(m, relid, gpadl, life, post);
         }
         if self.lists.is_live(gpadl) {
+            if self.plan.is_buffer(self.part, relid, gpadl) {
+                return self.empty(m, relid, gpadl, post);
+            }
             return self.tear_down(m, relid, gpadl, life, post);
         }
         Err(ControlFault::Gpadl(GpadlFault::Handle { id: gpadl }))
+    }
+
+    // The page list of a buffer is let go, and that is answered.
+    fn empty(
+        &mut self,
+        m: &Msg,
+        relid: u32,
+        gpadl: u32,
+        post: &mut MailBox,
+    ) -> Result<(), ControlFault>
+        requires room { length post.old.queue + 32 ≤ post.old.size }
+        ensures { Comes (Ok (empties_one self.old relid gpadl)) self.old self.new m.now post.old post.new result }
+    {
+        let awaits = self.emptied_then(relid, gpadl);
+        self.send(m, &Burst::One(torndown(gpadl)), post)?;
+        let_go(&mut self.lists, gpadl);
+        self.awaits = awaits;
+        Ok(())
+    }
+
+    // What it waits for once the page list of a buffer was torn down: that of the receive buffer is torn
+    // down behind that of the send buffer, and behind both the channel closed.
+    fn emptied_then(&self, relid: u32, gpadl: u32) -> HostWait
+        ensures { result ≡ emptied_then self.now self.now.awaits relid gpadl }
+    {
+        match self.awaits {
+            HostWait::Empty(place, buffer) => match self.plan.opening(self.part(), place) {
+                Some(o) if o.relid == relid && buffer_list(&o, buffer) == gpadl => match buffer {
+                    Buffer::Send => HostWait::Empty(place, Buffer::Receive),
+                    Buffer::Receive => HostWait::Close(place),
+                },
+                _ => HostWait::Empty(place, buffer),
+            },
+            other => other,
+        }
     }
 
     // The same, for a channel that stands so, where the list may be torn down.

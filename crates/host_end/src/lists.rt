@@ -1,7 +1,9 @@
 //! The page lists of a host.
 ghost use Rattle.std.specs.Prelude.{◌≡◌, ◌+◌, ◌≤◌, length, Some, None};
 ghost use Rattle.control_model.specs.Channels.{by_relid};
-ghost use Rattle.control_model.specs.Host.{on_header, on_piece, listed, lists_torn, without};
+ghost use Rattle.control_model.specs.Plan.{IsOpening};
+ghost use Rattle.control_model.specs.declared.host_wait.HostWait.TheVariants.{Fill};
+ghost use Rattle.control_model.specs.Host.{on_header, on_piece, listed, lists_torn, without, without_all};
 ghost use Rattle.gpadl.specs.Assembly.{fault_of, IsPiece, Partial};
 ghost use Rattle.host_end.specs.Feeding.{Comes, list_made};
 
@@ -9,7 +11,7 @@ use crate::HostControl;
 use crate::answers::created;
 use crate::posting::put;
 use chan_state::Action;
-use control_model::{ControlFault, HostWait};
+use control_model::{Buffer, ControlFault, HostWait, Opening, buffer_list};
 use gpadl::{Assembler, Progress};
 use mail_box::MailBox;
 use vmbus_msg::Msg;
@@ -57,7 +59,7 @@ impl HostControl {
         match made {
             Some((relid, handle)) => {
                 let answer = created(relid, handle);
-                self.awaits = self.listed(relid);
+                self.awaits = self.listed(relid, handle);
                 put(&mut self.posted, &answer, post);
                 Ok(())
             }
@@ -66,8 +68,8 @@ impl HostControl {
     }
 
     // What it waits for once a list is whole.
-    fn listed(&self, relid: u32) -> HostWait
-        ensures { (p : Partial) → p.relid ≡ relid → result ≡ listed self.now self.now.awaits p }
+    fn listed(&self, relid: u32, handle: u32) -> HostWait
+        ensures { (p : Partial) → p.relid ≡ relid → p.handle ≡ handle → result ≡ listed self.now self.now.awaits p }
     {
         match self.awaits {
             HostWait::List(place) => {
@@ -77,7 +79,22 @@ impl HostControl {
                     HostWait::List(place)
                 }
             }
+            HostWait::Fill(place, buffer) => self.filled(place, buffer, relid, handle),
             other => other,
+        }
+    }
+
+    // The same, while it waits for the page list of a buffer: that of the send buffer comes behind that of
+    // the receive buffer, and behind both the next opening.
+    fn filled(&self, place: usize, buffer: Buffer, relid: u32, handle: u32) -> HostWait
+        ensures { (p : Partial) → p.relid ≡ relid → p.handle ≡ handle → result ≡ listed self.now (Fill place buffer) p }
+    {
+        match self.plan.opening(self.part(), place) {
+            Some(o) if o.relid == relid && buffer_list(&o, buffer) == handle => match buffer {
+                Buffer::Receive => HostWait::Fill(place, Buffer::Send),
+                Buffer::Send => self.waits_list(self.part(), place + 1),
+            },
+            _ => HostWait::Fill(place, buffer),
         }
     }
 }
@@ -107,4 +124,16 @@ pub(crate) fn let_go(lists: &mut Assembler, gpadl: u32)
     ensures { lists.new ≡ without lists.old gpadl }
 {
     lists.torn(gpadl);
+}
+
+// Lets all page lists of an opening go.
+pub(crate) fn let_all_go(lists: &mut Assembler, o: &Opening)
+    requires { IsOpening o.now }
+    ensures { lists.new ≡ without_all lists.old o.now }
+{
+    if o.buffers {
+        let_go(lists, buffer_list(o, Buffer::Send));
+        let_go(lists, buffer_list(o, Buffer::Receive));
+    }
+    let_go(lists, o.gpadl);
 }

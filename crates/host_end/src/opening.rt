@@ -9,7 +9,7 @@ use crate::HostControl;
 use crate::answers::opened;
 use crate::posting::put_all;
 use chan_state::{Action, ChanState, Event};
-use control_model::{Burst, ControlFault, HostWait, messages};
+use control_model::{Buffer, Burst, ControlFault, HostWait, messages};
 use io_edge::Side;
 use mail_box::MailBox;
 use std::alloc::AllocError;
@@ -73,12 +73,14 @@ impl HostControl {
         Ok(())
     }
 
-    // What it waits for once a channel was opened.
+    // What it waits for once a channel was opened: the page list of its receive buffer, where it has
+    // buffers, and the next opening otherwise.
     fn opened_then(&self, relid: u32) -> HostWait
         ensures { result ≡ opened_then self.now self.now.awaits relid }
     {
         match self.awaits {
             HostWait::Open(place) => match self.plan.opening(self.part(), place) {
+                Some(o) if o.relid == relid && o.buffers => HostWait::Fill(place, Buffer::Receive),
                 Some(o) if o.relid == relid => self.waits_list(self.part(), place + 1),
                 _ => HostWait::Open(place),
             },

@@ -41,6 +41,9 @@ const FIRST_TOLD: &[u8] =
 const UNSUPPORTED: &[u8] =
     b"contact 4.0 5.3\noffer disk a 64 0\noffer disk b 64 0\nmodify a 0\nmodify b 3\n";
 
+// A network.
+const NET: &[u8] = b"contact 5.2 5.2\noffer net n 020000000001 0200000000fe\nquery n 0x00010106\n";
+
 // What the tests tell messages by: the type, and then relid or version, handle or processor, and the ring
 // to the guest or the number of frames.
 type Told = (u32, u32, u32, u32);
@@ -834,6 +837,111 @@ fn goes_on(
     for (step, sends) in steps {
         take(rt, &mut guest, *step, sends);
     }
+}
+
+// The page lists of a network's buffers are sent behind its channel's answer, one at a time, and torn down
+// before it is closed. A message of one that isn't the awaited one makes the channel go on nowhere.
+const FILL: [(Step, &[Told]); 26] = [
+    (Step::Begin(Part::Contact), &[(14, 0x5_0002, 0, 0)]),
+    (Step::Feed(Said::Response { supported: 1 }), &[(3, 0, 0, 0)]),
+    (
+        Step::Feed(Said::Offer {
+            kind: Kind::Net,
+            relid: 1,
+            sub: 0,
+        }),
+        &[],
+    ),
+    (Step::Feed(Said::Delivered), &[]),
+    (Step::Begin(Part::PhaseStart(0)), &[(8, 1, GPADL, 4)]),
+    (
+        Step::Feed(Said::Created {
+            relid: 1,
+            gpadl: GPADL,
+        }),
+        &[(5, 1, GPADL, 2)],
+    ),
+    (
+        Step::Feed(Said::Created {
+            relid: 1,
+            gpadl: GPADL + 1,
+        }),
+        &[],
+    ),
+    (
+        Step::Feed(Said::Opened {
+            relid: 1,
+            status: 0,
+        }),
+        &[
+            (8, 1, GPADL + 1, 26),
+            (9, 0, GPADL + 1, 28),
+            (9, 1, GPADL + 1, 10),
+        ],
+    ),
+    (Step::FirstPage(58), &[]),
+    (Step::IsAt(1, Some(State::Opened)), &[]),
+    (
+        Step::Feed(Said::Created {
+            relid: 1,
+            gpadl: GPADL + 2,
+        }),
+        &[],
+    ),
+    (
+        Step::Refuse(
+            Said::Torndown { gpadl: GPADL + 1 },
+            ControlFault::Gpadl(GpadlFault::Handle { id: GPADL + 1 }),
+        ),
+        &[],
+    ),
+    (Step::IsDone(false), &[]),
+    (
+        Step::Feed(Said::Created {
+            relid: 1,
+            gpadl: GPADL + 1,
+        }),
+        &[
+            (8, 1, GPADL + 2, 26),
+            (9, 0, GPADL + 2, 28),
+            (9, 1, GPADL + 2, 10),
+        ],
+    ),
+    (Step::FirstPage(122), &[]),
+    (
+        Step::Feed(Said::Created {
+            relid: 1,
+            gpadl: GPADL + 2,
+        }),
+        &[],
+    ),
+    (Step::IsDone(true), &[]),
+    (Step::Begin(Part::PhaseEnd(0)), &[(11, 1, GPADL + 2, 0)]),
+    (
+        Step::Refuse(
+            Said::Torndown { gpadl: GPADL + 1 },
+            ControlFault::Gpadl(GpadlFault::Handle { id: GPADL + 1 }),
+        ),
+        &[],
+    ),
+    (
+        Step::Feed(Said::Torndown { gpadl: GPADL + 2 }),
+        &[(11, 1, GPADL + 1, 0)],
+    ),
+    (Step::IsAt(1, Some(State::Opened)), &[]),
+    (
+        Step::Feed(Said::Torndown { gpadl: GPADL + 1 }),
+        &[(7, 1, 0, 0), (11, 1, GPADL, 0)],
+    ),
+    (Step::IsAt(1, Some(State::Closing)), &[]),
+    (Step::Feed(Said::Torndown { gpadl: GPADL }), &[]),
+    (Step::IsAt(1, Some(State::Closed)), &[]),
+    (Step::IsDone(true), &[]),
+];
+
+#[test]
+fn buffers_have_lists(rt: HostRuntime) {
+    take_all(&rt, NET, &FILL);
 }
 
 #[test]

@@ -24,6 +24,9 @@ const UNANSWERED: &[u8] = b"contact 5.3 5.2\noffer hb a\nmodify a 5\n";
 
 const UNSUPPORTED: &[u8] = b"contact 5.3 4.0\noffer hb a\nmodify a 5\n";
 
+// A network.
+const NET: &[u8] = b"contact 5.2 5.2\noffer net n 020000000001 0200000000fe\nquery n 0x00010106\n";
+
 const GPADL: u32 = 0xe1e10;
 
 // What the tests tell messages by: the type, and then what it answers with, or relid or handle.
@@ -173,8 +176,8 @@ fn feed_list(
     pages: usize,
     sends: &[Told],
 ) {
-    let list = [7; 34];
-    check(rt, 1 <= pages && pages <= 34);
+    let list = [7; 64];
+    check(rt, 1 <= pages && pages <= 64);
     let Ok(messages) = to_messages(rt.alloc(), relid, gpadl, &list[..pages]) else {
         panic!(rt; "no messages");
     };
@@ -480,6 +483,119 @@ fn opens_one(rt: &(impl Abort + AllocGlobal), script: &[u8], version: u32) -> Ho
         take(rt, &mut host, *step, sends);
     }
     host
+}
+
+// The page lists of a network's buffers come behind its channel's answer. One that is let go out of turn, and
+// sent again, makes the channel go on nowhere.
+const FILL: [(Step, &[Told]); 27] = [
+    (Step::Begin(Part::Contact), &[]),
+    (Step::Feed(Said::Contact { version: 0x5_0002 }), &[(15, 1)]),
+    (Step::Feed(Said::Request), &[(1, 1), (4, 0)]),
+    (Step::Begin(Part::PhaseStart(0)), &[]),
+    (
+        Step::List {
+            relid: 1,
+            gpadl: GPADL,
+            pages: 4,
+        },
+        &[(10, GPADL)],
+    ),
+    (
+        Step::Feed(Said::Open {
+            relid: 1,
+            gpadl: GPADL,
+        }),
+        &[(6, 1)],
+    ),
+    (Step::IsDone(false), &[]),
+    (
+        Step::Refuse(
+            Said::Teardown {
+                relid: 1,
+                gpadl: GPADL + 1,
+            },
+            ControlFault::Gpadl(GpadlFault::Handle { id: GPADL + 1 }),
+        ),
+        &[],
+    ),
+    (
+        Step::List {
+            relid: 1,
+            gpadl: GPADL + 1,
+            pages: 64,
+        },
+        &[(10, GPADL + 1)],
+    ),
+    (
+        Step::Feed(Said::Teardown {
+            relid: 1,
+            gpadl: GPADL + 1,
+        }),
+        &[(12, GPADL + 1)],
+    ),
+    (Step::IsAt(1, Some(State::Opened)), &[]),
+    (
+        Step::List {
+            relid: 1,
+            gpadl: GPADL + 1,
+            pages: 64,
+        },
+        &[(10, GPADL + 1)],
+    ),
+    (Step::IsDone(false), &[]),
+    (
+        Step::List {
+            relid: 1,
+            gpadl: GPADL + 2,
+            pages: 64,
+        },
+        &[(10, GPADL + 2)],
+    ),
+    (Step::IsDone(true), &[]),
+    (Step::Begin(Part::PhaseEnd(0)), &[]),
+    (
+        Step::Feed(Said::Teardown {
+            relid: 1,
+            gpadl: GPADL + 2,
+        }),
+        &[(12, GPADL + 2)],
+    ),
+    (
+        Step::Refuse(
+            Said::Teardown {
+                relid: 1,
+                gpadl: GPADL + 2,
+            },
+            ControlFault::Gpadl(GpadlFault::Handle { id: GPADL + 2 }),
+        ),
+        &[],
+    ),
+    (
+        Step::Feed(Said::Teardown {
+            relid: 1,
+            gpadl: GPADL + 1,
+        }),
+        &[(12, GPADL + 1)],
+    ),
+    (Step::IsAt(1, Some(State::Opened)), &[]),
+    (Step::Feed(Said::Close { relid: 1 }), &[]),
+    (
+        Step::Feed(Said::Teardown {
+            relid: 1,
+            gpadl: GPADL,
+        }),
+        &[(12, GPADL)],
+    ),
+    (Step::IsAt(1, Some(State::Closed)), &[]),
+    (Step::IsDone(true), &[]),
+    (Step::Begin(Part::Unload), &[]),
+    (Step::Feed(Said::Unload), &[(17, 0)]),
+    (Step::Ended(13, 19), &[]),
+];
+
+#[test]
+fn buffers_have_lists(rt: HostRuntime) {
+    take_all(&rt, NET, &FILL);
 }
 
 #[test]

@@ -8,6 +8,6 @@ mod guest_end_tests;
 #[cfg(test)]
 mod host_end_tests;
 #[cfg(test)]
-mod path_tests;
+mod net_tests;
 #[cfg(test)]
-mod sock_tests;
+mod path_tests;

@@ -13,8 +13,8 @@ use Rattle.bus_model.specs.declared.channel_run.ChannelRun.{ChannelRun}
 use Rattle.bus_model.proofs.Opened.{carries_opened_lem}
 use Rattle.control_model.specs.declared.opening.Opening.{Opening as ControlOpening}
 use Rattle.control_model.specs.declared.planning.Fate.{Fate}
-use Rattle.control_model.specs.Openings.{fate_of, openings_from, numbered, pages_in, plan_of}
-use Rattle.control_model.specs.Plan.{list_pages, first_gpadl}
+use Rattle.control_model.specs.Openings.{fate_of, openings_from, numbered, lists_for, pages_for, lists_in, pages_in, plan_of}
+use Rattle.control_model.specs.Plan.{first_gpadl}
 use Rattle.vmbus_main.specs.Opened.{CarriedOnOpened, in_relid_order, opened_from, opened_in, carried_on}
 
 abbrev on_phase : ℕ × ℕ × ℕ → ℕ × ℕ
@@ -36,7 +36,7 @@ keep n o c false xs ys same more = more
 same_places : (p : ℕ → Bool) (n : ℕ) (sizes : ℕ → ℕ) (fates : ℕ → Fate) (gpadl page : ℕ) (os : List Opening)
     → map on_phase (map (opening_at n) (filter (λ o. p o.sub) os)) ≡ map (control_at n) (filter (λ o. p o.sub) (openings_from sizes fates gpadl page os))
 same_places p n sizes fates gpadl page [] = refl
-same_places p n sizes fates gpadl page (o ∷ os) = keep n o _ (p o.sub) _ _ refl (same_places p n sizes fates (gpadl + 1) (page + list_pages (sizes o.device)) os)
+same_places p n sizes fates gpadl page (o ∷ os) = keep n o _ (p o.sub) _ _ refl (same_places p n sizes fates (gpadl + lists_for o) (page + pages_for sizes o) os)
 
 -- so they are in one order, by their relids
 
@@ -60,7 +60,7 @@ phase_places version kinds number next sizes gpadl page earlier (part ∷ rest) 
     let more = flat_map opened_at (phases_from version kinds (number + 1) (next + length (others os)) (earlier ++ part) rest) in
     map-append on_phase (map (opening_at number) (by_relid os)) more
     ∙ (ap (λ l. l ++ map on_phase more) (in_one_order number sizes fates gpadl page os)
-    ∙ ap (λ l. map (control_at number) (in_relid_order (openings_from sizes fates gpadl page os)) ++ l) (phase_places version kinds (number + 1) (next + length (others os)) sizes (gpadl + length os) (page + pages_in sizes os) (earlier ++ part) rest))
+    ∙ ap (λ l. map (control_at number) (in_relid_order (openings_from sizes fates gpadl page os)) ++ l) (phase_places version kinds (number + 1) (next + length (others os)) sizes (gpadl + lists_in os) (page + pages_in sizes os) (earlier ++ part) rest))
 
 of_runs : (settled : List ChannelRun) → carried_on settled ≡ map on_phase (map carried_at settled)
 of_runs [] = refl

@@ -60,3 +60,9 @@ returns-clause-host_offers c port = refl
 
 pub returns-clause-sock_state : goal.returns-clause-sock_state
 returns-clause-sock_state c port = refl
+
+pub returns-clause-guest_fills : goal.returns-clause-guest_fills
+returns-clause-guest_fills c = refl
+
+pub returns-clause-host_fills : goal.returns-clause-host_fills
+returns-clause-host_fills c = refl

@@ -11,7 +11,7 @@ invariant-loop-start l = record {
   so_far : SoFar l.lines l.devices l.start (map (λ phase. phase.items) l.phases.items) l.next;
   within : l.start ≤ length l.lines + 1;
   few : vec_len l.phases ≤ l.start;
-  gpadl : l.next.gpadl ≤ first_gpadl + 64 * vec_len l.phases;
-  page : l.next.page ≤ 2176 * vec_len l.phases;
+  gpadl : l.next.gpadl ≤ first_gpadl + 192 * vec_len l.phases;
+  page : l.next.page ≤ 10368 * vec_len l.phases;
   relid : l.next.relid ≤ 17 + 64 * vec_len l.phases;
 }

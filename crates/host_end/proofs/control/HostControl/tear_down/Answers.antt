@@ -15,5 +15,5 @@ returns c =
     subst (λ h. Posts c.args.self.now h c.and_rescind.result (c.args.m.now ∷ []) c.args.post.now c.send.new.post) (sym c.self.view_is) c.in_ok-send.ensures.posted in
     let F : List ChanState → Assembly → HostSeen = λ cs ls. record { plan = mid.plan; part = mid.part; awaits = next.awaits; version = mid.version; channels = cs; lists = ls; posted = mid.posted; fed = mid.fed } in
     torn c.args.self.now mid (F c.put_rescinded.new.channels.items c.end_list.new.lists) c.args.m.now c.args.post.now c.send.new.post c.args.relid c.args.gpadl c.args.life c.event.new.self c.in-Ok.action next c.and_rescind.result
-    c.in-Ok.ensures.taken.0 c.in-Ok.ensures.taken.1 c.in-Ok.ensures.taken.2 c.torn_then-next.ensures posts (c.and_rescind.ensures.burst ∙ ap (λ a. and_rescind a next.rescinds) c.torn_answer.ensures)
+    c.in-Ok.ensures.taken.0 c.in-Ok.ensures.taken.1 c.in-Ok.ensures.taken.2 c.torn_then-next.ensures.next posts (c.and_rescind.ensures.burst ∙ ap (λ a. and_rescind a next.rescinds) c.torn_answer.ensures)
     (λ i. F (c.put_rescinded.ensures i) ((c.end_list.ensures ∙ ap (λ l. without_its l next.rescinds) c.tear_list.ensures) i))

@@ -1,0 +1,203 @@
+//! The page lists of networks' buffers: two networks over two phases, of which the host rescinds the second
+//! one at the end of the first phase.
+ghost use Rattle.control_run.specs.Path.{Rests};
+
+use crate::check::check;
+use bus_script::parse;
+use chan_state::State;
+use contact::Part;
+use control_run::{ControlPath, PathOver};
+use std::process::Abort;
+use std::sync::Wait;
+use std::thread::Threads;
+use vmbus_msg::Msg;
+
+// Rings of one data page: the list of the rings has 4 pages, and each buffer's 64.
+const SCRIPT: &[u8] =
+    b"contact 5.2 5.2\noffer net n 020000000001 0200000000fe\noffer net m 020000000002 0200000000fd\nquery n 0x00010106\nrescind m after 0\nphase\nquery n 0x00010106\n";
+
+const GPADL: u32 = 0xe1e10;
+
+// What the tests tell messages by: the type, relid or number of a body, handle, the number of frames, and
+// the first frame.
+type Told = (u32, u32, u32, usize, u64);
+
+fn first(frames: &[u64]) -> u64 {
+    match frames {
+        [frame, ..] => *frame,
+        [] => 0,
+    }
+}
+
+fn told(m: &Msg) -> Told {
+    match m {
+        Msg::OfferChannel { relid, .. } => (1, *relid, 0, 0, 0),
+        Msg::RescindChannelOffer { relid, .. } => (2, *relid, 0, 0, 0),
+        Msg::RequestOffers { .. } => (3, 0, 0, 0, 0),
+        Msg::AllOffersDelivered { .. } => (4, 0, 0, 0, 0),
+        Msg::OpenChannel { relid, gpadl, .. } => (5, *relid, *gpadl, 0, 0),
+        Msg::OpenChannelResult { relid, .. } => (6, *relid, 0, 0, 0),
+        Msg::CloseChannel { relid, .. } => (7, *relid, 0, 0, 0),
+        Msg::GpadlHeader(h) => (
+            8,
+            h.relid,
+            h.gpadl,
+            h.frames.len(),
+            first(h.frames.as_slice()),
+        ),
+        Msg::GpadlBody(b) => (
+            9,
+            b.msgnumber,
+            b.gpadl,
+            b.frames.len(),
+            first(b.frames.as_slice()),
+        ),
+        Msg::GpadlCreated { relid, gpadl, .. } => (10, *relid, *gpadl, 0, 0),
+        Msg::GpadlTeardown { relid, gpadl, .. } => (11, *relid, *gpadl, 0, 0),
+        Msg::GpadlTorndown { gpadl, .. } => (12, 0, *gpadl, 0, 0),
+        Msg::RelidReleased { relid, .. } => (13, *relid, 0, 0, 0),
+        Msg::InitiateContact { .. } => (14, 0, 0, 0, 0),
+        Msg::VersionResponse { .. } => (15, 0, 0, 0, 0),
+        Msg::Unload { .. } => (16, 0, 0, 0, 0),
+        Msg::UnloadResponse { .. } => (17, 0, 0, 0, 0),
+        _ => (0, 0, 0, 0, 0),
+    }
+}
+
+// All that the guest says: of each list of 64 pages a header of 26 frames and bodies of 28 and 10.
+const GUEST_SAYS: [Told; 36] = [
+    (14, 0, 0, 0, 0),
+    (3, 0, 0, 0, 0),
+    (8, 1, GPADL, 4, 0),
+    (5, 1, GPADL, 0, 0),
+    (8, 1, GPADL + 1, 26, 4),
+    (9, 0, GPADL + 1, 28, 30),
+    (9, 1, GPADL + 1, 10, 58),
+    (8, 1, GPADL + 2, 26, 68),
+    (9, 0, GPADL + 2, 28, 94),
+    (9, 1, GPADL + 2, 10, 122),
+    (8, 2, GPADL + 3, 4, 132),
+    (5, 2, GPADL + 3, 0, 0),
+    (8, 2, GPADL + 4, 26, 136),
+    (9, 0, GPADL + 4, 28, 162),
+    (9, 1, GPADL + 4, 10, 190),
+    (8, 2, GPADL + 5, 26, 200),
+    (9, 0, GPADL + 5, 28, 226),
+    (9, 1, GPADL + 5, 10, 254),
+    (11, 1, GPADL + 2, 0, 0),
+    (11, 1, GPADL + 1, 0, 0),
+    (7, 1, 0, 0, 0),
+    (11, 1, GPADL, 0, 0),
+    (13, 2, 0, 0, 0),
+    (8, 1, GPADL + 6, 4, 264),
+    (5, 1, GPADL + 6, 0, 0),
+    (8, 1, GPADL + 7, 26, 268),
+    (9, 0, GPADL + 7, 28, 294),
+    (9, 1, GPADL + 7, 10, 322),
+    (8, 1, GPADL + 8, 26, 332),
+    (9, 0, GPADL + 8, 28, 358),
+    (9, 1, GPADL + 8, 10, 386),
+    (11, 1, GPADL + 8, 0, 0),
+    (11, 1, GPADL + 7, 0, 0),
+    (7, 1, 0, 0, 0),
+    (11, 1, GPADL + 6, 0, 0),
+    (16, 0, 0, 0, 0),
+];
+
+// And the host.
+const HOST_SAYS: [Told; 24] = [
+    (15, 0, 0, 0, 0),
+    (1, 1, 0, 0, 0),
+    (1, 2, 0, 0, 0),
+    (4, 0, 0, 0, 0),
+    (10, 1, GPADL, 0, 0),
+    (6, 1, 0, 0, 0),
+    (10, 1, GPADL + 1, 0, 0),
+    (10, 1, GPADL + 2, 0, 0),
+    (10, 2, GPADL + 3, 0, 0),
+    (6, 2, 0, 0, 0),
+    (10, 2, GPADL + 4, 0, 0),
+    (10, 2, GPADL + 5, 0, 0),
+    (12, 0, GPADL + 2, 0, 0),
+    (12, 0, GPADL + 1, 0, 0),
+    (12, 0, GPADL, 0, 0),
+    (2, 2, 0, 0, 0),
+    (10, 1, GPADL + 6, 0, 0),
+    (6, 1, 0, 0, 0),
+    (10, 1, GPADL + 7, 0, 0),
+    (10, 1, GPADL + 8, 0, 0),
+    (12, 0, GPADL + 8, 0, 0),
+    (12, 0, GPADL + 7, 0, 0),
+    (12, 0, GPADL + 6, 0, 0),
+    (17, 0, 0, 0, 0),
+];
+
+// Runs the next part.
+fn go<R: Abort + Threads + Wait + Sync>(rt: &R, path: ControlPath) -> ControlPath
+    requires { Rests path }
+    ensures { Rests result }
+{
+    let Some(part) = path.next_part() else {
+        panic!(rt; "no part is left");
+    };
+    let Ok(path) = path.run(rt, part) else {
+        panic!(rt; "a side wanted memory");
+    };
+    path
+}
+
+// Runs the farewell, which is the last part.
+fn leave<R: Abort + Threads + Wait + Sync>(rt: &R, path: ControlPath) -> PathOver
+    requires { Rests path }
+{
+    let Some(Part::Unload) = path.next_part() else {
+        panic!(rt; "the farewell isn't next");
+    };
+    let Ok(path) = path.run(rt, Part::Unload) else {
+        panic!(rt; "a side wanted memory");
+    };
+    path.end(rt)
+}
+
+// Runs all parts of the script, which has two phases.
+fn stay<R: Abort + AllocGlobal + Threads + Wait + Sync>(rt: &R) -> PathOver {
+    let Ok(script) = parse(rt.alloc(), SCRIPT) else {
+        panic!(rt; "no script");
+    };
+    let Ok(path) = ControlPath::make(rt.alloc(), &script) else {
+        panic!(rt; "no path");
+    };
+    let contacted = go(rt, path);
+    let opened = go(rt, contacted);
+    let closed = go(rt, opened);
+    let again = go(rt, closed);
+    let ended = go(rt, again);
+    leave(rt, ended)
+}
+
+// These were said, and nothing else.
+fn check_said(rt: &impl Abort, posted: &[Msg], says: &[Told]) {
+    let mut said = posted.iter();
+    for want in says {
+        check(rt, said.next().map(told) == Some(*want));
+    }
+    check(rt, said.next().is_none());
+}
+
+#[test]
+fn buffers_have_lists(rt: HostRuntime) {
+    let over = stay(&rt);
+    let (guest, host) = (&over.guest, &over.host);
+    check_said(&rt, guest.posted(), &GUEST_SAYS);
+    check_said(&rt, host.fed(), &GUEST_SAYS);
+    check_said(&rt, host.posted(), &HOST_SAYS);
+    check_said(&rt, guest.fed(), &HOST_SAYS);
+    check(
+        &rt,
+        guest.state(1) == Some(State::Closed) && host.state(1) == Some(State::Closed),
+    );
+    check(
+        &rt,
+        guest.state(2) == Some(State::Released) && host.state(2) == Some(State::Released),
+    );
+}
