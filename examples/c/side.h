@@ -48,7 +48,7 @@ static void rest(struct side *s, uint32_t want)
     vmbus_ring_awake(s->out, s->in, a);
 }
 
-static void send_packet(struct side *s, const uint64_t *packet)
+static inline void send_packet(struct side *s, const uint64_t *packet)
 {
     uint32_t a;
     while ((a = vmbus_ring_send(&s->end, s->out, packet)) == VMBUS_FULL)
@@ -60,7 +60,7 @@ static void send_packet(struct side *s, const uint64_t *packet)
 }
 
 /* The next packet: false where there is none, and the peer said that it sends nothing more. */
-static bool take_packet(struct side *s)
+static inline bool take_packet(struct side *s)
 {
     uint32_t a;
     for (;;) {

@@ -1,5 +1,5 @@
 /* Calls of the static libraries vmbus_c (control messages, packets, services, signals), vmbus_control_c (versions, offers, page lists), vmbus_net_c (NVSP and Remote NDIS), vmbus_stor_c
-   (storage packets) and, for the ends of a channel, ring_plan_c and vmbus_ring_c. Nothing takes memory, and nothing is kept between calls. A null pointer with length 0 is an empty slice. What each call gives is proved
+   (storage packets) and, for the ends of a channel, ring_plan_c, page_plan_c (its data pages) and vmbus_ring_c. Nothing takes memory, and nothing is kept between calls. A null pointer with length 0 is an empty slice. What each call gives is proved
    there; here is what C has to know of it. Each call is total: whatever the numbers that it is given, it answers as is said here, and touches no memory but that. Every pointer is to
    private memory, never into pages that a peer shares: a call may read a byte twice, and rests on reading the same. Slices that are written overlap no other argument.
 
@@ -363,6 +363,13 @@ enum vmbus_answer {
     VMBUS_PLANNED = 19,          /* of plans alone: go on as planned */
     VMBUS_FOUND_WORK_ROOM = 20,  /* as VMBUS_FOUND_WORK, and the caller stores pending 0 too */
     VMBUS_WOKE_ROOM = 21,        /* as VMBUS_WOKE, and the caller stores pending 0 too */
+    VMBUS_PAGE_DUE = 22,         /* of data pages, as all below: words of a page are to be loaded first. Of a take that is done: it is taken, and they are */
+    VMBUS_PAGE_NOT_OWNED = 23,   /* the end doesn't have the page, or has lent it */
+    VMBUS_PAGE_OUTSIDE = 24,     /* words past those of the page that the end may store to */
+    VMBUS_ID_OPEN = 25,          /* a packet that lends a page has the id of a request that isn't completed */
+    VMBUS_ID_NOT_OWED = 26,      /* a completion answers no request that was taken */
+    VMBUS_NO_IDS = 27,           /* no room for one more id: the caller's array is full */
+    VMBUS_PAGE_DONE = 28,        /* what was planned counts as done */
 };
 
 /* ---- An end whose every step is named (crates/vmbus_ring_c): the slow form, for callers who want to see each access. ---- */
@@ -477,6 +484,61 @@ uint32_t vmbus_arm_plan(struct vmbus_plan_end *end, uint32_t want);
 uint32_t vmbus_arm_done(struct vmbus_plan_end *end, uint32_t write, uint32_t read, uint64_t mark);
 uint32_t vmbus_poll_done(struct vmbus_plan_end *end, uint64_t signal);
 uint32_t vmbus_mark_done(struct vmbus_plan_end *end);
+
+/* ---- Data pages by plans (crates/page_plan_c): which pages an end has, has lent and holds, and what it may store, load, lend and complete. docs/C.md has the rules. ---- */
+
+/* What an end has to do with a page of its channel. Another number than these is VMBUS_PAGE_AWAY too. */
+enum vmbus_page_owner {
+    VMBUS_PAGE_AWAY = 0, /* it isn't the page's home, and doesn't hold it */
+    VMBUS_PAGE_HAS = 1,  /* it is the page's home, and has it */
+    VMBUS_PAGE_LENT = 2, /* it is the page's home, and has lent its first words */
+    VMBUS_PAGE_HELD = 3, /* it isn't the page's home, and holds its first words */
+};
+struct vmbus_page {
+    uint64_t tid;   /* the id of the packet by which the page is lent or held */
+    uint32_t words; /* how many of its first words are; a word has 8 bytes, a page 512 words */
+    uint32_t owner; /* enum vmbus_page_owner */
+};
+
+/* So many requests with this id. A slot whose count is 0 is free. */
+struct vmbus_id {
+    uint64_t tid, count;
+};
+
+enum vmbus_page_state {
+    VMBUS_PAGE_IDLE = 0,
+    VMBUS_PAGE_STORING = 1, /* stores are planned, and not done */
+    VMBUS_PAGE_LOADING = 2,
+    VMBUS_PAGE_SENDING = 3,
+    VMBUS_PAGE_TAKING = 4,
+};
+struct vmbus_page_end {
+    uint32_t state;     /* enum vmbus_page_state */
+    uint32_t due_page;  /* the page whose first words are to be loaded */
+    uint32_t due_words; /* how many, or 0 where none is */
+};
+
+/* Bytes of a page that C copies, all in one run. */
+struct vmbus_page_run {
+    uint32_t page, at, bytes;
+};
+
+/* An end has a slot a page, 1 to 128; `asks`, the ids of its own requests that aren't completed; and `owed`, the ids of its peer's. Any arrays are safe. The last argument of vmbus_page_make is
+   true for the host's end, whose pages are those from 64 on. A packet is all of its words. */
+bool vmbus_page_make(struct vmbus_page_end *end, struct vmbus_page *slots, size_t pages, struct vmbus_id *asks, size_t ask_slots, struct vmbus_id *owed, size_t owed_slots, bool host);
+uint32_t vmbus_page_store_plan(struct vmbus_page_end *end, const struct vmbus_page *slots, size_t pages, uint32_t page, uint32_t from, uint32_t words, struct vmbus_page_run *run);
+uint32_t vmbus_page_store_done(struct vmbus_page_end *end);
+uint32_t vmbus_page_load_plan(struct vmbus_page_end *end, const struct vmbus_page *slots, size_t pages, struct vmbus_page_run *run);
+uint32_t vmbus_page_load_done(struct vmbus_page_end *end);
+uint32_t vmbus_page_send_plan(struct vmbus_page_end *end, const struct vmbus_page *slots, size_t pages, const struct vmbus_id *asks, size_t ask_slots, const struct vmbus_id *owed, size_t owed_slots,
+    const uint64_t *packet, size_t words);
+uint32_t vmbus_page_send_done(struct vmbus_page_end *end, struct vmbus_page *slots, size_t pages, struct vmbus_id *asks, size_t ask_slots, struct vmbus_id *owed, size_t owed_slots,
+    const uint64_t *packet, size_t words);
+uint32_t vmbus_page_take_plan(struct vmbus_page_end *end, const struct vmbus_page *slots, size_t pages, const struct vmbus_id *owed, size_t owed_slots);
+uint32_t vmbus_page_take_done(struct vmbus_page_end *end, struct vmbus_page *slots, size_t pages, struct vmbus_id *asks, size_t ask_slots, struct vmbus_id *owed, size_t owed_slots,
+    const uint64_t *packet, size_t words);
+uint32_t vmbus_page_drop(struct vmbus_page_end *end);
+bool vmbus_page_ready(const struct vmbus_page_end *end);
 
 /* ---- Whole calls over shared pages, by C's own words (the builtins of gcc and clang): the accesses of a plan, each with its order. ---- */
 
@@ -595,6 +657,67 @@ static inline uint32_t vmbus_ring_poll(struct vmbus_plan_end *e, struct vmbus_ri
 {
     uint32_t a = vmbus_poll_done(e, __atomic_exchange_n(signal, 0, __ATOMIC_SEQ_CST));
     vmbus_ring_awake(out, in, a);
+    return a;
+}
+
+/* The data pages of a channel: what this end keeps of them, in private memory, and the pages themselves, 4,096 bytes each, which both ends map. */
+struct vmbus_pages {
+    struct vmbus_page_end end;
+    struct vmbus_page *slots;
+    struct vmbus_id *asks, *owed;
+    size_t count, ask_slots, owed_slots; /* of slots, asks and owed */
+    char *shared;
+};
+
+/* Stores so many words of a page, from word `from` on: VMBUS_PAGE_DONE, or why not. What the peer sees of them comes with the packet that lends the page, or gives it back. */
+static inline uint32_t vmbus_page_store(struct vmbus_pages *p, uint32_t page, uint32_t from, uint32_t words, const void *bytes)
+{
+    struct vmbus_page_run run;
+    uint32_t a = vmbus_page_store_plan(&p->end, p->slots, p->count, page, from, words, &run);
+    if (a != VMBUS_PLANNED)
+        return a;
+    memcpy(p->shared + 4096 * (size_t)run.page + run.at, bytes, run.bytes);
+    return vmbus_page_store_done(&p->end);
+}
+
+/* Loads the words that came with the packet that was taken last, into private memory with room for a page: VMBUS_PAGE_DONE, and then *bytes of them; or why not. */
+static inline uint32_t vmbus_page_load(struct vmbus_pages *p, void *to, uint32_t *bytes)
+{
+    struct vmbus_page_run run;
+    uint32_t a = vmbus_page_load_plan(&p->end, p->slots, p->count, &run);
+    if (a != VMBUS_PLANNED)
+        return a;
+    vmbus_copy(to, p->shared + 4096 * (size_t)run.page + run.at, run.bytes / 8);
+    *bytes = run.bytes;
+    return vmbus_page_load_done(&p->end);
+}
+
+/* vmbus_ring_send of an end with data pages: what it answers, or why the packet may not be sent. A page that the packet lends, or gives back, is stored before. */
+static inline uint32_t vmbus_pages_send(struct vmbus_plan_end *e, struct vmbus_ring out, struct vmbus_pages *p, const uint64_t *packet)
+{
+    size_t words = packet[0] >> 32 & 0xffff;
+    uint32_t a = vmbus_page_send_plan(&p->end, p->slots, p->count, p->asks, p->ask_slots, p->owed, p->owed_slots, packet, words);
+    if (a != VMBUS_PLANNED)
+        return a;
+    a = vmbus_ring_send(e, out, packet);
+    if (a == VMBUS_SENT_QUIET || a == VMBUS_SENT_RAISED)
+        vmbus_page_send_done(&p->end, p->slots, p->count, p->asks, p->ask_slots, p->owed, p->owed_slots, packet, words);
+    else
+        vmbus_page_drop(&p->end);
+    return a;
+}
+
+/* vmbus_ring_take of an end with data pages: what it answers, but VMBUS_PAGE_DUE where it is taken and a page came with it, and then vmbus_page_load comes next; or why no packet may be taken yet.
+   VMBUS_NO_CALL after a packet that is taken says that the numbers of `p` were changed by something else. */
+static inline uint32_t vmbus_pages_take(struct vmbus_plan_end *e, struct vmbus_ring in, struct vmbus_pages *p, uint64_t *packet, uint32_t *len, uint32_t *offset)
+{
+    uint32_t a = vmbus_page_take_plan(&p->end, p->slots, p->count, p->owed, p->owed_slots);
+    if (a != VMBUS_PLANNED)
+        return a;
+    a = vmbus_ring_take(e, in, packet, len, offset);
+    if (a == VMBUS_TOOK)
+        return vmbus_page_take_done(&p->end, p->slots, p->count, p->asks, p->ask_slots, p->owed, p->owed_slots, packet, *len);
+    vmbus_page_drop(&p->end);
     return a;
 }
 

@@ -1,0 +1,10 @@
+use Rattle.std.proofs.Common.{◌≡◌, ⊎_elim}
+use Rattle.page_plan.specs.Answers.{took, page_due}
+use Rattle.page_plan.specs.Ends.{took_says}
+use Rattle.page_plan.proofs.Showing.{call_took, call_due, ids_took, ids_due, takes_show}
+use Rattle.page_plan.proofs.laws.takes_keep_the_rule.Goals as goal
+
+pub returns : goal.returns
+returns c = λ s got k e ss asks owed p sh says.
+    ⊎_elim (λ (h : took_says e ss owed p ≡ took). takes_show s got k e ss asks owed sh p took call_took ids_took h)
+    (λ (h : took_says e ss owed p ≡ page_due). takes_show s got k e ss asks owed sh p page_due call_due ids_due h) says

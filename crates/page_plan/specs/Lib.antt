@@ -1,0 +1,5 @@
+pub mod Answers
+pub mod Slots
+pub mod Ids
+pub mod Ends
+pub mod Shown
