@@ -1,14 +1,13 @@
 -- Two workers that ended left a run of their socket.
-use Rattle.std.proofs.Common.{◌≡◌, ℕ, ◌+◌, ◌*◌, ◌≤◌, ◌<◌, ◌⊎◌, inl, inr, ⊎_elim, Bool, true, false, ◌&&◌, List, [], ◌∷◌, ◌++◌, length, Option, Some, None, append-nil, refl, sym, ap, ◌∙◌, subst, arith}
+use Rattle.std.proofs.Common.{◌≡◌, ℕ, ◌+◌, ◌≤◌, ◌⊎◌, inl, inr, ⊎_elim, Bool, true, false, ◌&&◌, List, [], ◌∷◌, ◌++◌, length, Option, Some, None, append-nil, refl, sym, ap, ◌∙◌, subst, arith}
 use Rattle.std.proofs.lemmas.Bool.{and_parts}
 use Rattle.channel_trace.specs.Laws.{AreOfOneRun, DrainsAll, StaysUnmarked}
-use Rattle.channel_trace.specs.Runs.{IsFront, got_of, has_marked, is_drained, sent_of}
+use Rattle.channel_trace.specs.Runs.{IsFront, got_of, is_drained, sent_of}
 use Rattle.channel_trace.proofs.Fronts.{front_trans}
 use Rattle.channel_trace.proofs.RunLaws.{drains_all, stays_unmarked}
 use Rattle.channel_trace.proofs.Steps.{of_guest}
 use Rattle.ring_core.specs.Seen.{Seen}
 use Rattle.ring_seat.specs.declared.table_seat.TableSeat.{TableSeat}
-use Rattle.hv_sock.specs.declared.sock_fault.SockFault.{SockFault}
 use Rattle.hv_sock.specs.Packets.{sock_packet}
 use Rattle.hv_sock.specs.Streams.{fault_in, is_closed, stream_of}
 use Rattle.hv_sock.proofs.PacketLaws.{closed_whole}
@@ -17,11 +16,11 @@ use Rattle.ring_pair_laws.specs.Lists.{Lists}
 use Rattle.sock_workers.specs.declared.ended.Ended.{Ended}
 use Rattle.sock_workers.specs.declared.ended.Ended.TheVariants.{Marked, PeerMarked, Room, Fault}
 use Rattle.sock_workers.specs.Pieces.{echoed, ending, owed, packets_for, packets_of}
-use Rattle.sock_workers.specs.Ports.{UsesUp, words_in}
-use Rattle.sock_workers.specs.Workers.{Echoes, FollowsPeer, Guest, GuestLeaves, Host, HostLeaves, LeavesEnd, is_over}
+use Rattle.sock_workers.specs.Ports.{UsesUp}
+use Rattle.sock_workers.specs.Workers.{Echoes, FollowsPeer, GuestLeaves, HostLeaves, LeavesEnd, is_over}
 use Rattle.sock_run.specs.Pairs.{ArePair, Pairing}
 use Rattle.sock_run.specs.Runs.{IsSockRun}
-use Rattle.sock_run.proofs.PacketRuns.{AreBytes, ArePackets, IsPart, packets_are}
+use Rattle.sock_run.proofs.PacketRuns.{ArePackets, IsPart, packets_are}
 
 by_bool : {P : Type 0} (b : Bool) → (b ≡ true → P) → (b ≡ false → P) → P
 by_bool true f g = f refl

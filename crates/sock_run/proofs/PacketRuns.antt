@@ -1,16 +1,14 @@
 -- The packets of a stream of bytes, and fronts of them.
-use Rattle.std.proofs.Common.{◌≡◌, ℕ, zero, suc, ◌+◌, ◌*◌, ◌/◌, ◌≤◌, ◌<◌, ◌⊎◌, inl, inr, ⊎_elim, Bool, true, false, List, [], ◌∷◌, ◌++◌, map, length, take, drop, get_or, Option, None, append-nil, append_assoc, length-append, length-drop, length-take-le, length-take, refl, sym, ap, ◌∙◌, subst, arith}
-use Rattle.std.proofs.lemmas.Bool.{leb-true}
+use Rattle.std.proofs.Common.{◌≡◌, ℕ, zero, suc, ◌+◌, ◌*◌, ◌≤◌, ◌<◌, ◌⊎◌, inl, inr, ⊎_elim, Bool, true, false, List, [], ◌∷◌, ◌++◌, map, length, take, drop, get_or, None, length-drop, length-take, refl, sym, ap, ◌∙◌, subst, arith}
 use Rattle.std.proofs.lemmas.Bool.Decides.{nat_tests}
-use Rattle.std.proofs.lemmas.List.{get_or-drop, get_or-take, get_or_past, length-map, take-append-drop}
+use Rattle.std.proofs.lemmas.List.{get_or-drop, get_or-take, get_or_past, take-append-drop}
 use Rattle.std.specs.Prelude.{ltb}
 use Rattle.channel_trace.specs.Runs.{IsFront}
-use Rattle.vm_page.specs.Words.{words_for}
-use Rattle.hv_sock.specs.declared.sock_fault.SockFault.{SockFault}
-use Rattle.hv_sock.specs.Packets.{Said, Data, Close, says, sock_packet}
+use Rattle.hv_sock.specs.Packets.{Said, Data, sock_packet}
 use Rattle.hv_sock.specs.Streams.{closed_by, data_then, fault_by, fault_in, is_closed, stream_of}
 use Rattle.hv_sock.proofs.PacketLaws.{says_data, says_end, sock_length}
-use Rattle.sock_workers.specs.Pieces.{closing, echo_then, echoed, packets_for, packets_of, pieces, pieces_by}
+use Rattle.sock_workers.proofs.PieceLaws.{cut, pieces_cut}
+use Rattle.sock_workers.specs.Pieces.{closing, echo_then, echoed, packets_for, packets_of, pieces_for}
 use Rattle.sock_workers.specs.Ports.{words_in}
 
 abbrev pub AreBytes : List ℕ → Type 0
@@ -38,45 +36,28 @@ bytes_take n xs h i = by_less (ltb i n) refl
         let le : n ≤ i = grind (arith, nat_tests, ge) in
         subst (λ (k : ℕ). k < 256) (sym (get_or_past (take n xs) i 0 (omega (arith, le, length-take n xs)))) (omega arith)
 
-pieces_by_are : (xs bytes : List ℕ) → AreBytes bytes → ArePieces (pieces_by xs bytes)
-pieces_by_are [] bytes h = tt
-pieces_by_are (x ∷ xs) [] h = tt
-pieces_by_are (x ∷ xs) (b ∷ bytes) h = (
-  record { some = omega (arith, length-take 2048 (b ∷ bytes)); few = omega (arith, length-take 2048 (b ∷ bytes)); bytes = bytes_take 2048 (b ∷ bytes) h },
-  pieces_by_are xs (drop 2048 (b ∷ bytes)) (bytes_drop 2048 (b ∷ bytes) h),
+cut_are : (n : ℕ) (bytes : List ℕ) → n ≤ pieces_for (length bytes) → AreBytes bytes → ArePieces (cut n bytes)
+cut_are zero bytes le h = tt
+cut_are (suc n) bytes le h = (
+  record { some = omega (arith, le, length-take 2048 bytes); few = omega (arith, length-take 2048 bytes); bytes = bytes_take 2048 bytes h },
+  cut_are n (drop 2048 bytes) (omega (arith, le, length-drop 2048 bytes)) (bytes_drop 2048 bytes h),
 )
 
-pieces_count : (xs bytes : List ℕ) → length bytes ≤ length xs → 2048 * length (pieces_by xs bytes) ≤ length bytes + 2047
-pieces_count [] [] le = omega arith
-pieces_count [] (b ∷ bytes) le = absurd (omega (arith, le))
-pieces_count (x ∷ xs) [] le = omega arith
-pieces_count (x ∷ xs) (b ∷ bytes) le =
-    let more = pieces_count xs (drop 2048 (b ∷ bytes)) (omega (arith, le, length-drop 2048 (b ∷ bytes))) in
-    by_rest (drop 2048 (b ∷ bytes)) refl more
-  where
-    by_rest : (rest : List ℕ) → drop 2048 (b ∷ bytes) ≡ rest → 2048 * length (pieces_by xs (drop 2048 (b ∷ bytes))) ≤ length (drop 2048 (b ∷ bytes)) + 2047 → 2048 * length (take 2048 (b ∷ bytes) ∷ pieces_by xs (drop 2048 (b ∷ bytes))) ≤ length (b ∷ bytes) + 2047
-    by_rest [] is more =
-        let none : length (pieces_by xs (drop 2048 (b ∷ bytes))) ≡ 0 = ap (λ (l : List ℕ). length (pieces_by xs l)) is ∙ nothing xs in
-        omega (arith, none)
-      where
-        nothing : (ys : List ℕ) → length (pieces_by ys []) ≡ 0
-        nothing [] = refl
-        nothing (y ∷ ys) = refl
-    by_rest (c ∷ rest) is more = omega (arith, more, length-drop 2048 (b ∷ bytes), ap length is)
+cut_count : (n : ℕ) (bytes : List ℕ) → length (cut n bytes) ≡ n
+cut_count zero bytes = refl
+cut_count (suc n) bytes = ap suc (cut_count n (drop 2048 bytes))
 
 stream_by : (s : Said) (d rest : List ℕ) → s ≡ Data d → data_then s rest ≡ d ++ rest
 stream_by s d rest is = ap (λ (x : Said). data_then x rest) is
 
-pieces_stream : (xs bytes : List ℕ) → length bytes ≤ length xs → AreBytes bytes → stream_of (closing (pieces_by xs bytes)) ≡ bytes
-pieces_stream [] [] le h = ap (λ (s : Said). data_then s []) says_end
-pieces_stream [] (b ∷ bytes) le h = absurd (omega (arith, le))
-pieces_stream (x ∷ xs) [] le h = ap (λ (s : Said). data_then s []) says_end
-pieces_stream (x ∷ xs) (b ∷ bytes) le h =
-    let all = b ∷ bytes in
-    let d = take 2048 all in
-    let is = says_data d (omega (arith, length-take 2048 all)) (omega (arith, length-take 2048 all)) (bytes_take 2048 all h) in
-    let rest = pieces_stream xs (drop 2048 all) (omega (arith, le, length-drop 2048 all)) (bytes_drop 2048 all h) in
-    ap (λ (s : Said). data_then s (stream_of (closing (pieces_by xs (drop 2048 all))))) is ∙ (ap (λ (l : List ℕ). d ++ l) rest ∙ take-append-drop 2048 all)
+cut_stream : (n : ℕ) (bytes : List ℕ) → n ≡ pieces_for (length bytes) → AreBytes bytes → stream_of (closing (cut n bytes)) ≡ bytes
+cut_stream zero [] is h = ap (λ (s : Said). data_then s []) says_end
+cut_stream zero (b ∷ bytes) is h = absurd (omega (arith, is))
+cut_stream (suc n) bytes is h =
+    let d = take 2048 bytes in
+    let said = says_data d (omega (arith, is, length-take 2048 bytes)) (omega (arith, length-take 2048 bytes)) (bytes_take 2048 bytes h) in
+    let rest = cut_stream n (drop 2048 bytes) (omega (arith, is, length-drop 2048 bytes)) (bytes_drop 2048 bytes h) in
+    ap (λ (s : Said). data_then s (stream_of (closing (cut n (drop 2048 bytes))))) said ∙ (ap (λ (l : List ℕ). d ++ l) rest ∙ take-append-drop 2048 bytes)
 
 -- a front of the packets of pieces that isn't all of them
 pub record IsPart (count : ℕ) (ps : List (List ℕ)) : Type 0 where
@@ -125,13 +106,18 @@ pub record ArePackets (bytes : List ℕ) (ps : List (List ℕ)) : Type 0 where
   pub echo : echoed ps ++ sock_packet [] ∷ [] ≡ ps
   pub front : (qs : List (List ℕ)) → IsFront qs ps → (qs ≡ ps) ⊎ ((n : ℕ) × (n + 1 ≤ packets_for (length bytes)) × IsPart n qs)
 
+cut_packets : (bytes : List ℕ) → packets_of bytes ≡ closing (cut (pieces_for (length bytes)) bytes)
+unfolding packets_of
+cut_packets bytes = ap closing (pieces_cut bytes)
+
 pub packets_are : (bytes : List ℕ) → AreBytes bytes → ArePackets bytes (packets_of bytes)
-unfolding packets_of pieces
 packets_are bytes h =
-    let ds = pieces_by bytes bytes in
-    let are = pieces_by_are bytes bytes h in record {
-      stream = pieces_stream bytes bytes (omega arith) h;
+    let n = pieces_for (length bytes) in
+    let ds = cut n bytes in
+    let are = cut_are n bytes (omega arith) h in
+    subst (ArePackets bytes) (sym (cut_packets bytes)) (record {
+      stream = cut_stream n bytes refl h;
       closed = closing_closed ds are;
       echo = ap (λ (l : List (List ℕ)). l ++ sock_packet [] ∷ []) (closing_echo ds are);
-      front = λ qs f. ⊎_elim (λ all. inl all) (λ part. inr (length ds, omega (arith, pieces_count bytes bytes (omega arith)), part)) (front_of ds qs are f);
-    }
+      front = λ qs f. ⊎_elim (λ all. inl all) (λ part. inr (length ds, omega (arith, cut_count n bytes), part)) (front_of ds qs are f);
+    })

@@ -5,6 +5,7 @@ mod both;
 mod ended;
 mod guest;
 mod host;
+pub mod laws;
 mod port;
 
 pub use both::run_both;

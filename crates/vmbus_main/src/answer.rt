@@ -34,16 +34,16 @@ pub fn answer_input<R: Threads + Wait + Sync, G: Gate>(
     gate: &G,
     alloc: Global,
     command: InputCommand,
-    input: &[u8],
+    input: Vec<u8>,
 ) -> Result<Answer, ParseFault>
-    requires size { length input.now ≤ 1048576 }
-    ensures { IsAnswered command input.now result }
+    requires size { length input.items ≤ 1048576 }
+    ensures { IsAnswered command input.items result }
 {
     match command {
-        InputCommand::Run => run_input(rt, gate, alloc, input),
-        InputCommand::Decode => decode_input(alloc, input),
-        InputCommand::Trace => trace_input(alloc, input),
-        InputCommand::Hostile => hostile_input(alloc, input),
+        InputCommand::Run => run_input(rt, gate, alloc, &input),
+        InputCommand::Decode => decode_input(alloc, &input),
+        InputCommand::Trace => trace_input(alloc, &input),
+        InputCommand::Hostile => hostile_input(alloc, &input),
         InputCommand::Sock { port } => sock_input(rt, alloc, port, input),
     }
 }

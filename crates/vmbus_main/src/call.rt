@@ -102,7 +102,7 @@ fn call_input<R: Threads + Wait + Sync, S: Source, K: Sink, G: Gate>(
         settled,
         histories,
         text,
-    } = match answer_input(rt, gate, alloc, command, &input) {
+    } = match answer_input(rt, gate, alloc, command, input) {
         Ok(answer) => answer,
         Err(ParseFault::Memory) => return stopped(alloc, 5, None),
         Err(ParseFault::Script(fault)) => return stopped(alloc, 2, Some(fault)),

@@ -18,14 +18,13 @@ pub(crate) fn sock_input<R: Threads + Wait + Sync>(
     rt: &R,
     alloc: Global,
     port: u32,
-    input: &[u8],
+    input: Vec<u8>,
 ) -> Result<Answer, ParseFault>
-    requires { length input.now ≤ 1048576 }
-    ensures { IsAnswered (Sock port) input.now result }
+    requires { length input.items ≤ 1048576 }
+    ensures { IsAnswered (Sock port) input.items result }
 {
-    let bytes = input.to_vec(alloc)?;
     let mut settled = Vec::with_capacity(alloc, 1)?;
-    let Connection { guest, host, run } = connect(rt, alloc, port, bytes)?;
+    let Connection { guest, host, run } = connect(rt, alloc, port, input)?;
     let SockRun {
         settled: lists,
         output,

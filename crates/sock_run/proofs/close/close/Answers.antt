@@ -1,6 +1,6 @@
 use Rattle.std.proofs.Common.{ℕ, List, sym, ◌∙◌, subst}
 use Rattle.channel_trace.specs.Runs.{IsFront}
-use Rattle.sock_run.proofs.Joining.{Ends, joins}
+use Rattle.sock_run.proofs.Joining.{joins}
 use Rattle.sock_run.proofs.close.close.Goals as goal
 
 pub returns : goal.returns

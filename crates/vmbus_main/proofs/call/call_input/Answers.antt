@@ -1,13 +1,10 @@
-use Rattle.std.proofs.Common.{refl, ap, length, subst, arith}
+use Rattle.std.proofs.Common.{refl, subst, arith}
 use Rattle.io_edge.specs.Edge.{Grows, GrowsByFront}
 use Rattle.vmbus_main.specs.Answer.{IsAnswer}
 use Rattle.vmbus_main.specs.declared.command.Command.TheVariants.{Input}
 use Rattle.vmbus_main.proofs.Refusing.{told}
 use Rattle.vmbus_main.proofs.call.call_input.Goals as goal
 use Rattle.vmbus_main.proofs.call.call_input.Goals.{in-Ok-write_all, in-Err}
-
-pub answer_input-requires-clause-size : goal.answer_input-requires-clause-size
-answer_input-requires-clause-size g c = omega (arith, ap length c.deref.ensures.value, c.in-Ok.ensures.most)
 
 pub returns-clause-in_part : goal.returns-clause-in_part
 returns-clause-in_part g c four =
@@ -18,9 +15,9 @@ returns-clause-in_part g c four =
       (
         c.in-Ok.input.items,
         record { whole = c.in-Ok.ensures.whole; short = c.in-Ok.ensures.most },
-        subst (λ b. IsAnswer c.args.command b answer.controls answer.settled.items answer.histories.items answer.text.items) c.deref.ensures.value c.in-Ok-answer_input.ensures.0,
+        c.in-Ok-answer_input.ensures.0,
       ),
-      subst (λ b. GrowsByFront (g.K.Sink.written c.args.sink.now) (g.K.Sink.written c.write_all.new.sink) b) c.deref-2.ensures.value c.write_all.ensures.front,
+      subst (λ b. GrowsByFront (g.K.Sink.written c.args.sink.now) (g.K.Sink.written c.write_all.new.sink) b) c.deref.ensures.value c.write_all.ensures.front,
     )
 
 pub returns-clause-written : goal.returns-clause-written
@@ -34,9 +31,9 @@ returns-clause-written g c zero =
         (
           c.in-Ok.input.items,
           record { whole = c.in-Ok.ensures.whole; short = c.in-Ok.ensures.most },
-          subst (λ b. IsAnswer c.args.command b answer.controls answer.settled.items answer.histories.items answer.text.items) c.deref.ensures.value c.in-Ok-answer_input.ensures.0,
+          c.in-Ok-answer_input.ensures.0,
         ),
-        subst (λ b. Grows (g.K.Sink.written c.args.sink.now) (g.K.Sink.written c.write_all.new.sink) b) c.deref-2.ensures.value w.in-Ok-write_all.ensures.whole,
+        subst (λ b. Grows (g.K.Sink.written c.args.sink.now) (g.K.Sink.written c.write_all.new.sink) b) c.deref.ensures.value w.in-Ok-write_all.ensures.whole,
       )
       | in-Err w ↦ absurd (omega (arith, zero, w.status-is))
     ]
@@ -44,5 +41,5 @@ returns-clause-written g c zero =
 pub returns-clause-exactly : goal.returns-clause-exactly
 returns-clause-exactly g c refused =
     let answer = c.in-Ok-answer_input.answer in
-    let right = subst (λ b. IsAnswer c.args.command b answer.controls answer.settled.items answer.histories.items answer.text.items) c.deref.ensures.value c.in-Ok-answer_input.ensures.0 in
+    let right = c.in-Ok-answer_input.ensures.0 in
     absurd (told c.args.command (g.S.Source.left c.args.source.now) c.in-Ok.input.items answer.controls answer.settled.items answer.histories.items answer.text.items c.in-Ok.ensures.whole c.in-Ok.ensures.most right refused)
