@@ -1,1 +1,2 @@
+pub mod OwnPlanLaws
 pub mod Taking
