@@ -1,4 +1,4 @@
-/* Times of the readers for C: how many rounds have so many calls each. A line says what was read, the picoseconds a call, and the thousandths of a byte that a message has. */
+/* Times of the readers and writers for C: how many rounds have so many calls each. A line says what was read or written, the picoseconds a call, and the thousandths of a byte that a message has. */
 #define _GNU_SOURCE
 #include <inttypes.h>
 #include <stdio.h>
@@ -77,6 +77,29 @@ int main(int count, char **words)
     }
     tell("a control message read", best, calls * many, 1000 * size / many);
 
+    /* those of a page list have a writer of their own */
+    static struct vmbus_message messages[TYPES];
+    static uint8_t out[VMBUS_MESSAGE_MOST];
+    size_t kept = 0, len, kept_size = 0;
+    for (size_t k = 0; k < many; k++)
+        if (vmbus_message_read(bytes[k], lengths[k], &messages[kept], &fault) == 0 && vmbus_message_write(&messages[kept], out, sizeof out, &len) == 0)
+            kept++, kept_size += len;
+    if (kept < TYPES - 4)
+        fail("no messages are written");
+    best = UINT64_MAX;
+    for (uint64_t r = 0; r < rounds; r++) {
+        uint64_t start = now();
+        for (uint64_t i = 0; i < calls; i++)
+            for (size_t k = 0; k < kept; k++) {
+                if (vmbus_message_write(&messages[k], out, sizeof out, &len) != 0)
+                    fail("a message isn't written");
+                sum += out[i % len];
+            }
+        uint64_t took = now() - start;
+        best = took < best ? took : best;
+    }
+    tell("a control message (no page list) written", best, calls * kept, 1000 * kept_size / kept);
+
     static uint8_t packet[44 + FRAME], body[FRAME];
     struct vmbus_rndis rndis;
     uint32_t head[11] = {1, sizeof packet, 36, FRAME};
@@ -93,5 +116,18 @@ int main(int count, char **words)
         best = took < best ? took : best;
     }
     tell("a Remote NDIS frame of 1,514 bytes read", best, calls, 1000 * sizeof packet);
-    return sum == 1; /* so that what was read counts */
+
+    best = UINT64_MAX;
+    for (uint64_t r = 0; r < rounds; r++) {
+        uint64_t start = now();
+        for (uint64_t i = 0; i < calls; i++) {
+            if (vmbus_rndis_write(&rndis, body, FRAME, packet, sizeof packet, &len) != 0 || len != sizeof packet)
+                fail("a frame isn't written");
+            sum += packet[i % sizeof packet];
+        }
+        uint64_t took = now() - start;
+        best = took < best ? took : best;
+    }
+    tell("a Remote NDIS frame of 1,514 bytes written", best, calls, 1000 * sizeof packet);
+    return sum == 1; /* so that what was read and written counts */
 }

@@ -37,6 +37,12 @@ pub(crate) fn reads<R: Runtime>(rt: &R, bytes: &[u8], count: u64) -> io::Result<
     picoseconds(start.elapsed(rt)?.as_nanos(), made, wanted, count)
 }
 
+// Writes the packet: its length, and one of the frame's bytes, another one each time. A byte that nothing reads might not be written.
+fn write_again(packet: &Rndis, out: &mut [u8; 1600], turn: u64) -> u64 {
+    let len = encode(packet, out) as u64;
+    len.wrapping_add(out[44 + (turn % 1514) as usize] as u64)
+}
+
 /// The picoseconds to write the packet, of one round.
 pub(crate) fn writes<R: Runtime>(
     rt: &R,
@@ -46,9 +52,9 @@ pub(crate) fn writes<R: Runtime>(
 ) -> io::Result<u128> {
     let start = Instant::now(rt)?;
     let mut made: u64 = 0;
-    for _ in 0..count {
-        made = made.wrapping_add(encode(packet, out) as u64);
+    for turn in 0..count {
+        made = made.wrapping_add(write_again(packet, out, turn));
     }
-    let wanted = count.wrapping_mul(BYTES);
+    let wanted = count.wrapping_mul(BYTES + 0x5a);
     picoseconds(start.elapsed(rt)?.as_nanos(), made, wanted, count)
 }
