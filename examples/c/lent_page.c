@@ -1,8 +1,6 @@
 /* A page that goes there and back between two processes: the guest stores a page of its own and lends it by a request, the host loads it, stores it again, changed, and gives it back with its
    completion. Both ends go by plans, over rings and pages that they share. For Linux: memfd_create, mmap, eventfd, fork. */
 #define _GNU_SOURCE
-#include <sys/wait.h>
-
 #define PAGE 4096
 #define RING (4 * PAGE) /* bytes of data of each ring */
 #define PAGES 2         /* data pages of the channel; both are the guest's */
@@ -105,36 +103,18 @@ static void host(struct lender *l)
 
 int main(void)
 {
-    size_t size = 2 * (PAGE + RING) + PAGES * PAGE;
-    int fd = memfd_create("channel", 0), guest_signal = eventfd(0, 0), host_signal = eventfd(0, 0);
-    if (fd < 0 || guest_signal < 0 || host_signal < 0 || ftruncate(fd, size) != 0)
-        fail("no memory to share", 0);
-    char *shared = mmap(NULL, size, PROT_READ | PROT_WRITE, MAP_SHARED, fd, 0);
-    if (shared == MAP_FAILED)
-        fail("no memory to share", 0);
-    struct vmbus_ring to_host = {(struct vmbus_ring_words *)shared, shared + PAGE};
-    struct vmbus_ring to_guest = {(struct vmbus_ring_words *)(shared + PAGE + RING), shared + PAGE + RING + PAGE};
-    to_host.head->mask = to_guest.head->mask = 1;
-    to_host.head->feature = to_guest.head->feature = 1;
-    pid_t child = fork();
-    if (child < 0)
-        fail("no second process", 0);
+    struct channel c = new_channel(PAGES * PAGE);
     static struct lender l;
-    l.s.out = child ? to_guest : to_host;
-    l.s.in = child ? to_host : to_guest;
-    l.s.own = child ? host_signal : guest_signal;
-    l.s.peer = child ? guest_signal : host_signal;
-    l.p = (struct vmbus_pages){.slots = l.slots, .asks = l.asks, .owed = l.owed, .count = PAGES, .ask_slots = IDS, .owed_slots = IDS, .shared = shared + 2 * (PAGE + RING)};
-    if (!vmbus_plan_make(&l.s.end, RING) || !vmbus_page_make(&l.p.end, l.slots, PAGES, l.asks, IDS, l.owed, IDS, child != 0))
-        fail("no end", 0);
+    pid_t child = split_channel(&c, &l.s);
+    l.p = (struct vmbus_pages){.slots = l.slots, .asks = l.asks, .owed = l.owed, .count = PAGES, .ask_slots = IDS, .owed_slots = IDS, .shared = c.more};
+    if (!vmbus_page_make(&l.p.end, l.slots, PAGES, l.asks, IDS, l.owed, IDS, child != 0))
+        fail("no pages", PAGES);
     if (!child) {
         guest(&l);
         return 0;
     }
     host(&l);
-    int status = 1;
-    if (waitpid(child, &status, 0) != child || status != 0)
-        fail("the guest failed", (uint32_t)status);
+    wait_for_guest(child);
     printf("%d times a page went there and back between two processes\n", TURNS);
     return 0;
 }

@@ -1,4 +1,5 @@
-/* One end of a channel by plans, in private memory, which sleeps on its signal where it has nothing to do. Whoever includes it says first how many bytes of data each ring has: RING. For Linux. */
+/* One end of a channel by plans, in private memory, which sleeps on its signal where it has nothing to do. Whoever includes it says first how many bytes of data each ring has: RING; and
+   _GNU_SOURCE, for memfd_create. For Linux. */
 #ifndef SIDE_H
 #define SIDE_H
 #include <inttypes.h>
@@ -6,6 +7,7 @@
 #include <stdlib.h>
 #include <sys/eventfd.h>
 #include <sys/mman.h>
+#include <sys/wait.h>
 #include <unistd.h>
 #include "vmbus.h"
 
@@ -81,6 +83,56 @@ static inline bool take_packet(struct side *s)
     else if (a != VMBUS_COMMITTED_QUIET)
         fail("not committed", a);
     return true;
+}
+
+/* A channel between a process and its child: the rings and `more` bytes behind them, in memory that both map, and a signal for each end. */
+struct channel {
+    struct vmbus_ring to_host, to_guest;
+    char *more;
+    int guest_signal, host_signal;
+};
+
+static inline struct channel new_channel(size_t more)
+{
+    const size_t header = 4096; /* the page of a ring's words */
+    size_t size = 2 * (header + RING) + more;
+    int fd = memfd_create("channel", 0);
+    struct channel c = {.guest_signal = eventfd(0, 0), .host_signal = eventfd(0, 0)};
+    if (fd < 0 || c.guest_signal < 0 || c.host_signal < 0 || ftruncate(fd, size) != 0)
+        fail("no memory to share", 0);
+    char *at = mmap(NULL, size, PROT_READ | PROT_WRITE, MAP_SHARED, fd, 0);
+    if (at == MAP_FAILED)
+        fail("no memory to share", 0);
+    c.to_host = (struct vmbus_ring){(struct vmbus_ring_words *)at, at + header};
+    at += header + RING;
+    c.to_guest = (struct vmbus_ring){(struct vmbus_ring_words *)at, at + header};
+    c.more = at + header + RING;
+    /* A new channel: all is 0, but that nobody sleeps, and that pending counts. */
+    c.to_host.head->mask = c.to_guest.head->mask = 1;
+    c.to_host.head->feature = c.to_guest.head->feature = 1;
+    return c;
+}
+
+/* Makes the child, which has the guest's end, and answers 0 there; this process has the host's. */
+static inline pid_t split_channel(const struct channel *c, struct side *s)
+{
+    if (!vmbus_plan_make(&s->end, RING))
+        fail("no size of a ring", RING);
+    pid_t child = fork();
+    if (child < 0)
+        fail("no second process", 0);
+    s->out = child ? c->to_guest : c->to_host;
+    s->in = child ? c->to_host : c->to_guest;
+    s->own = child ? c->host_signal : c->guest_signal;
+    s->peer = child ? c->guest_signal : c->host_signal;
+    return child;
+}
+
+static inline void wait_for_guest(pid_t child)
+{
+    int status = 1;
+    if (waitpid(child, &status, 0) != child || status != 0)
+        fail("the guest failed", (uint32_t)status);
 }
 
 #endif

@@ -1,5 +1,6 @@
 /* A storage guest: it starts the channel, asks what the disk is, writes blocks of its own pages and reads them again, and hears what is refused. storage_host.c starts it, with the file
    descriptors of the shared pages and of both signals. */
+#define _GNU_SOURCE
 #include "storage.h"
 
 static uint64_t last_tid;

@@ -1,7 +1,6 @@
 /* A storage host: a disk in memory behind a channel. It starts storage_guest.c's program, which is its argument, shares pages and two signals with it, and serves until the guest says that
    it sends nothing more. The guest is not trusted: each packet is taken into private memory and tested, and each page frame number too. */
 #define _GNU_SOURCE
-#include <sys/wait.h>
 #include "storage.h"
 
 #define BLOCKS 2048
@@ -137,9 +136,7 @@ int main(int argc, char **argv)
     if (child < 0)
         fail("no second process", 0);
     host(&s, m);
-    int status = 1;
-    if (waitpid(child, &status, 0) != child || status != 0)
-        fail("the guest failed", (uint32_t)status);
+    wait_for_guest(child);
     printf("host: %lu packets served\n", served);
     return 0;
 }

@@ -1,8 +1,6 @@
 /* A heartbeat between two processes: both ends of a channel over pages that they share, with Linux's layout, each asleep on its own signal where it has nothing to do. The host asks, and the guest
    answers. The ends are those by plans (crates/ring_plan_c), the answers are crates/vmbus_c's. For Linux: memfd_create, mmap, eventfd, fork. */
 #define _GNU_SOURCE
-#include <sys/wait.h>
-
 #define PAGE 4096
 #define RING (4 * PAGE) /* bytes of data of each ring */
 #define BEATS 100000
@@ -54,36 +52,15 @@ static void host(struct side *s)
 
 int main(void)
 {
-    size_t size = 2 * (PAGE + RING);
-    int fd = memfd_create("channel", 0), guest_signal = eventfd(0, 0), host_signal = eventfd(0, 0);
-    if (fd < 0 || guest_signal < 0 || host_signal < 0 || ftruncate(fd, size) != 0)
-        fail("no memory to share", 0);
-    char *shared = mmap(NULL, size, PROT_READ | PROT_WRITE, MAP_SHARED, fd, 0);
-    if (shared == MAP_FAILED)
-        fail("no memory to share", 0);
-    struct vmbus_ring to_host = {(struct vmbus_ring_words *)shared, shared + PAGE};
-    struct vmbus_ring to_guest = {(struct vmbus_ring_words *)(shared + PAGE + RING), shared + PAGE + RING + PAGE};
-    /* A new channel: all is 0, but that nobody sleeps, and that pending counts. */
-    to_host.head->mask = to_guest.head->mask = 1;
-    to_host.head->feature = to_guest.head->feature = 1;
+    struct channel c = new_channel(0);
     static struct side s;
-    if (!vmbus_plan_make(&s.end, RING))
-        fail("no size of a ring", RING);
-    pid_t child = fork();
-    if (child < 0)
-        fail("no second process", 0);
-    s.out = child ? to_guest : to_host;
-    s.in = child ? to_host : to_guest;
-    s.own = child ? host_signal : guest_signal;
-    s.peer = child ? guest_signal : host_signal;
+    pid_t child = split_channel(&c, &s);
     if (!child) {
         guest(&s);
         return 0;
     }
     host(&s);
-    int status = 1;
-    if (waitpid(child, &status, 0) != child || status != 0)
-        fail("the guest failed", (uint32_t)status);
+    wait_for_guest(child);
     printf("%d heartbeats between two processes; the host slept %lu times\n", BEATS, s.sleeps);
     return 0;
 }

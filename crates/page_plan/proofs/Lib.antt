@@ -1,3 +1,5 @@
 pub mod Requests
 pub mod Slotted
 pub mod Showing
+pub mod Fitting
+pub mod Causing

@@ -1,5 +1,5 @@
 -- What the calls leave shows the pages of an end after its send, its take, its stores and loads.
-use Rattle.std.proofs.Common.{◌≡◌, ◌≢◌, ℕ, zero, suc, ◌+◌, ◌-◌, ◌*◌, ◌<◌, ◌≤◌, ◌==◌, Bool, true, false, not, ◌&&◌, nat_le, nat_lt, ltb, cond, List, [], ◌∷◌, ◌++◌, length, get_or, set, Option, Some, None, refl, sym, ap, ◌∙◌, subst, arith, true≢false}
+use Rattle.std.proofs.Common.{◌≡◌, ◌≢◌, ℕ, zero, suc, ◌+◌, ◌-◌, ◌<◌, ◌≤◌, ◌==◌, Bool, true, false, not, ◌&&◌, nat_le, nat_lt, ltb, cond, List, [], ◌∷◌, ◌++◌, length, get_or, Option, Some, None, refl, sym, ap, ◌∙◌, subst, arith, true≢false}
 use Rattle.std.proofs.lemmas.Bool.Decides.{nat_tests}
 use Rattle.io_edge.specs.declared.side.Side.{Side}
 use Rattle.pkt_desc.specs.Packets.{kind_of, id_of}
@@ -11,21 +11,21 @@ use Rattle.page_kept.specs.declared.due.Due.TheVariants.{Clear, Loads}
 use Rattle.page_kept.specs.declared.item.Item.{Item}
 use Rattle.page_kept.specs.Items.{item_of, packets, values}
 use Rattle.page_kept.specs.Counts.{bit, count, is_ask, is_done}
-use Rattle.page_kept.specs.Kept.{owner_in, first_owner, with_sent, with_due, copy_in, pages_sent, pages_took}
-use Rattle.page_kept.specs.Layouts.{Loan, Layout, layout}
-use Rattle.page_kept.specs.Keepers.{Keeper, keeper, MaySend, MayStore, CanStore, asked, taken, ended, back}
+use Rattle.page_kept.specs.Kept.{first_owner, with_sent, copy_in, pages_sent, pages_took}
+use Rattle.page_kept.specs.Layouts.{Loan, layout}
+use Rattle.page_kept.specs.Keepers.{MaySend, CanStore, asked, taken, ended, back}
 use Rattle.page_kept.specs.Stepped.{with_word, page_stored, page_loaded, page_loaded_at}
 use Rattle.page_kept.proofs.Loans.{fits}
-use Rattle.page_plan.specs.Answers.{no_call, took, planned, page_due, page_not_owned, page_outside, id_open, id_not_owed, no_ids, page_done}
+use Rattle.page_plan.specs.Answers.{no_call, took, planned, page_due, page_not_owned, page_outside, id_open, id_not_owed, no_ids}
 use Rattle.page_plan.specs.Ends.{PageEnd, is_list, is_at, end_at, new_end, end_due, answer_says, room_says, ask_says, send_says, asks_sent, owed_sent, asks_took, owed_took, part_says, take_says, took_says, within_says, store_says, load_says}
 use Rattle.page_plan.specs.Ids.{IdSlot, ids_in, has_free, has_id, has_room, with_id, without_id}
 use Rattle.page_plan.specs.Slots.{PageSlot, away, owner_of, owners_of, slot_at, is_had, is_packet, store_room, named_in, slots_sent, slots_took, part_took}
 use Rattle.page_plan.specs.Shown.{due_of, part_of, Shows, IsExact, MayStoreAll, stores, loads}
 use Rattle.page_plan.proofs.Requests.{by_test, with_is, without_is, without_most, lacks, some_of}
-use Rattle.page_plan.proofs.Slotted.{owner_is, owner_in_is, sent_long, took_long, Sent, sent_is, took_as, took_is}
+use Rattle.page_plan.proofs.Slotted.{owner_in_is, sent_long, took_long, sent_is, took_as, took_is}
 
 -- the parts of a test that holds
-left : (a b : Bool) → (a && b) ≡ true → a ≡ true
+pub left : (a b : Bool) → (a && b) ≡ true → a ≡ true
 left true b h = refl
 left false b h = h
 
@@ -34,7 +34,7 @@ right true b h = h
 right false b h = absurd (cc)
 
 -- an answer that isn't the one of the refusal
-passed : (b : Bool) (x r a : ℕ) → r ≢ a → cond b x r ≡ a → (b ≡ true) × (x ≡ a)
+pub passed : (b : Bool) (x r a : ℕ) → r ≢ a → cond b x r ≡ a → (b ≡ true) × (x ≡ a)
 passed true x r a n h = (refl, h)
 passed false x r a n h = absurd (n h)
 
@@ -109,6 +109,9 @@ bits p t = (
   λ h. (ap (λ (b : Bool). bit (not b && (id_of p == t))) h, ap (λ (b : Bool). bit (b && (id_of p == t))) h),
   λ h. (ap (λ (b : Bool). bit (not b && (id_of p == t))) h, ap (λ (b : Bool). bit (b && (id_of p == t))) h),
 )
+
+one_bit : (t : ℕ) → bit (t == t) ≡ 1
+one_bit t = ap bit (let z : (t == t) ≡ true = grind (arith, nat_tests) in z)
 
 had_is : (o : Owner) → is_had o ≡ true → o ≡ Has
 had_is Has h = refl
@@ -266,8 +269,30 @@ module _ (s : Side) (got : List (List ℕ)) (k : Kept) (e : PageEnd) (ss : List 
         let r = took_is k ss p sh.count (some_of_list 4 (left (is_at e 4 ss) (is_packet p && (e.due_words == 0)) takes_at.0)) sh.owners in
         subst (λ (x : Kept). Shows s (got ++ p ∷ []) x (end_due (part_took ss p)) (slots_took ss p) (asks_took asks p) (owed_took owed p)) (sym r) (took_at (kind_of p == 11) refl)
 
+    -- beside a peer that completes a request that is open, the numbers stay exact
+    exact_took : IsExact s got k asks → ((kind_of p == 11) ≡ true → back (id_of p) (part_of s got k) < asked (id_of p) (part_of s got k)) → (b : Bool) → (kind_of p == 11) ≡ b
+        → IsExact s (got ++ p ∷ []) (took_as k p (owners_of (slots_took ss p)) (part_took ss p)) (cond b (without_id (id_of p) asks) asks)
+    exact_took x opens true h = λ t. omega (arith, x t, ap (λ (is : List Item). count (is_ask t) (packets is)) (same_sent (part_took ss p)), count_took (is_done t) got p, ((bits p t).0 h).1, without_is (id_of p) t asks has)
+      where
+        has : has_id (id_of p) asks ≡ true
+        has = by_test (has_id (id_of p) asks) (λ y. y) (λ n. absurd (let o = opens h in omega (arith, x (id_of p), o, lacks (id_of p) asks n)))
+    exact_took x opens false h = λ t. omega (arith, x t, ap (λ (is : List Item). count (is_ask t) (packets is)) (same_sent (part_took ss p)), count_took (is_done t) got p, ((bits p t).1 h).1)
+
+    -- a completion is one of a request that is open, where no more completions are taken then than there are requests
+    pub takes_open : (kind_of p == 11) ≡ true → back (id_of p) (part_of s (got ++ p ∷ []) (pages_took (layout k.count) k p)) ≤ asked (id_of p) (part_of s (got ++ p ∷ []) (pages_took (layout k.count) k p))
+        → back (id_of p) (part_of s got k) < asked (id_of p) (part_of s got k)
+    takes_open h most =
+        let r = took_is k ss p sh.count (some_of_list 4 (left (is_at e 4 ss) (is_packet p && (e.due_words == 0)) takes_at.0)) sh.owners in
+        let same : (pages_took (layout k.count) k p).sent ≡ k.sent = ap (λ (y : Kept). y.sent) r ∙ same_sent (part_took ss p) in
+        omega (arith, most, ap (λ (is : List Item). count (is_ask (id_of p)) (packets is)) same, count_took (is_done (id_of p)) got p, ((bits p (id_of p)).0 h).1, one_bit (id_of p))
+
+    pub takes_exact : IsExact s got k asks → ((kind_of p == 11) ≡ true → back (id_of p) (part_of s got k) < asked (id_of p) (part_of s got k)) → IsExact s (got ++ p ∷ []) (pages_took (layout k.count) k p) (asks_took asks p)
+    takes_exact x opens =
+        let r = took_is k ss p sh.count (some_of_list 4 (left (is_at e 4 ss) (is_packet p && (e.due_words == 0)) takes_at.0)) sh.owners in
+        subst (λ (y : Kept). IsExact s (got ++ p ∷ []) y (asks_took asks p)) (sym r) (exact_took x opens (kind_of p == 11) refl)
+
 -- the words of a store that is planned may be stored to
-store_owner : (o : Owner) (w : ℕ) → w < store_room o → CanStore o w
+pub store_owner : (o : Owner) (w : ℕ) → w < store_room o → CanStore o w
 store_owner Has w h = tt
 store_owner (Lent t n) w h = absurd (omega (arith, h))
 store_owner (Held t n) w h = h

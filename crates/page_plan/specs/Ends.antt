@@ -1,13 +1,12 @@
 -- What each call answers and leaves, by the numbers alone.
-use Rattle.std.specs.Prelude.{ℕ, ◌+◌, ◌-◌, ◌*◌, Bool, true, false, ◌&&◌, ◌||◌, ◌==◌, nat_lt, nat_le, not, cond, min, List, [], ◌∷◌, ◌++◌, length, replicate, slice_index_or, Option, Some, None}
+use Rattle.std.specs.Prelude.{ℕ, ◌-◌, ◌*◌, Bool, ◌&&◌, ◌||◌, ◌==◌, nat_lt, nat_le, not, cond, min, List, ◌++◌, length, replicate, Option, Some, None}
 use Rattle.pkt_desc.specs.Packets.{kind_of, id_of}
-use Rattle.page_kept.specs.declared.owner.Owner.{Owner}
 use Rattle.page_kept.specs.Layouts.{Loan}
 pub use Rattle.page_plan.specs.declared.end.PageEnd.{PageEnd}
 pub use Rattle.page_plan.specs.declared.run.PageRun.{PageRun}
 use Rattle.page_plan.specs.Answers.{no_call, took, planned, page_due, page_not_owned, page_outside, id_open, id_not_owed, no_ids, page_done}
-use Rattle.page_plan.specs.Ids.{IdSlot, free, ids_in, has_id, has_room, has_free, with_id, without_id}
-use Rattle.page_plan.specs.Slots.{PageSlot, away, has, owner_of, slot_at, is_had, is_packet, named_in, store_room, lent_under, part_took}
+use Rattle.page_plan.specs.Ids.{IdSlot, free, has_id, has_room, has_free, with_id, without_id}
+use Rattle.page_plan.specs.Slots.{PageSlot, away, has, owner_of, slot_at, is_had, is_packet, named_in, store_room, part_took}
 
 -- the slots are those of a channel with data pages
 abbrev pub is_list : List PageSlot → Bool

@@ -3,3 +3,4 @@ pub mod Slots
 pub mod Ids
 pub mod Ends
 pub mod Shown
+pub mod Causes

@@ -1,5 +1,5 @@
 -- What an end has to do with a page, in numbers, and what a packet names.
-use Rattle.std.specs.Prelude.{◌≡◌, ℕ, ◌<◌, ◌≤◌, Bool, true, false, ◌&&◌, ◌==◌, nat_le, cond, List, [], ◌∷◌, length, slice_index, slice_index_or, slice_set, Option, Some, None}
+use Rattle.std.specs.Prelude.{ℕ, ◌<◌, ◌≤◌, Bool, true, false, ◌&&◌, ◌==◌, nat_le, cond, List, [], ◌∷◌, length, slice_index, slice_index_or, slice_set, Option, Some, None}
 use Rattle.std.specs.List.{position}
 use Rattle.pkt_desc.specs.Packets.{kind_of, id_of, len8_of, offset8_of}
 use Rattle.page_kept.specs.declared.owner.Owner.{Owner}

@@ -29,7 +29,7 @@ module _ (s : Side) (base : ℕ) (ws : List ℕ) (got : List (List ℕ)) (k : Ke
   takes i more a nx some room lets = keeps_took (layout k.count) s (word_in base ws) got k y fit o (sh.due ∙ takes_clear s got k e ss asks owed sh i.packet a some room lets) i more nx
 
 -- a store of a word leaves what the next one asks
-still : (s : Side) (k : Kept) (q w v a n : ℕ) → MayStoreAll s k q a n → MayStoreAll s (page_stored k q w v) q a n
+pub still : (s : Side) (k : Kept) (q w v a n : ℕ) → MayStoreAll s k q a n → MayStoreAll s (page_stored k q w v) q a n
 still s k q w v a n may = λ i low high. let m = may i low high in record { clear = m.clear; page = m.page; word = m.word; owns = m.owns }
 
 lawful : (k : Kept) (q w v : ℕ) → Lawful (layout k.count) k → Lawful (layout k.count) (page_stored k q w v)
