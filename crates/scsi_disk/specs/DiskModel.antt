@@ -129,10 +129,10 @@ disk_after d q = command_after d (command_of q.cdb) q.out
 
 -- how many bytes come back at most
 abbrev pub most_back : Option Command → ℕ
-most_back (Some (Inquiry standard allocation)) = 36
+most_back (Some (Inquiry standard allocation)) = min allocation 36
 most_back (Some ReadCapacity) = 8
 most_back (Some (Read lba count)) = 512 * count
-most_back (Some (LongCapacity built allocation)) = 32
+most_back (Some (LongCapacity built allocation)) = min allocation 32
 most_back _ = 0
 
 -- what comes back are bytes, no more than the command asks for, and a check's codes are bytes
