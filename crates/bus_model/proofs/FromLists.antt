@@ -6,6 +6,7 @@ use Rattle.std.proofs.lemmas.List.{length-map, map-append}
 use Rattle.scsi_disk.proofs.RoomLaws.{by_test}
 use Rattle.contact.specs.declared.kind.DeviceKind.{DeviceKind}
 use Rattle.contact.specs.declared.kind.DeviceKind.TheVariants.{Beat, Down, Disk, Net}
+use Rattle.page_kept.specs.declared.item.Item.{Item}
 use Rattle.io_edge.specs.declared.side.Side.TheVariants.{Guest, Host}
 use Rattle.script_lines.specs.declared.line.Ask.{Ask}
 use Rattle.script_lines.specs.declared.line.Ask.TheVariants.{Ic as AskIc, Disk as AskDisk, Net as AskNet}
@@ -44,7 +45,7 @@ dropped : {X : Type 0} (f : X → Bool) (x : X) (xs : List X) → f x ≡ false 
 dropped f x xs e = grind (arith, e)
 
 -- what asks nothing isn't read, so the requests alone are
-read_requests : (kind : DeviceKind) (ps : List (List ℕ)) → filter_map (read_on kind) ps ≡ filter_map (read_on kind) (filter (format_of kind).is_request ps)
+read_requests : (kind : DeviceKind) (ps : List Item) → filter_map (read_on kind) ps ≡ filter_map (read_on kind) (filter (format_of kind).is_request ps)
 read_requests kind [] = refl
 read_requests kind (p ∷ ps) =
     by_test ((format_of kind).is_request p)
@@ -53,7 +54,7 @@ read_requests kind (p ∷ ps) =
     let none : read_on kind p ≡ None = (keeps kind).unread p ((keeps kind).asks p no) in
     map_past (read_on kind) p ps none ∙ (read_requests kind ps ∙ ap (filter_map (read_on kind)) (sym (dropped (format_of kind).is_request p ps no))))
 
-script_read : (kind : DeviceKind) (asks : List Ask) (ps : List (List ℕ)) → AllByRecursion (IsAskable kind) asks → Encoded (format_of kind) (map Script asks) ps → filter_map (read_on kind) ps ≡ asked_under (map (format_of kind).id_of ps) asks
+script_read : (kind : DeviceKind) (asks : List Ask) (ps : List Item) → AllByRecursion (IsAskable kind) asks → Encoded (format_of kind) (map Script asks) ps → filter_map (read_on kind) ps ≡ asked_under (map (format_of kind).id_of ps) asks
 script_read kind asks [] can encoded = refl
 script_read kind [] (p ∷ ps) can encoded = absurd encoded
 script_read kind (a ∷ asks) (p ∷ ps) can encoded =
@@ -65,7 +66,7 @@ drop_none : {X : Type 0} (xs : List X) → drop 0 xs ≡ xs
 drop_none [] = refl
 drop_none (x ∷ xs) = refl
 
-plan_read : (kind : DeviceKind) (start : List Want) (asks : List Ask) (ps : List (List ℕ)) → AllFixed (format_of kind) start → AllByRecursion (IsAskable kind) asks → Encoded (format_of kind) (start ++ map Script asks) ps
+plan_read : (kind : DeviceKind) (start : List Want) (asks : List Ask) (ps : List Item) → AllFixed (format_of kind) start → AllByRecursion (IsAskable kind) asks → Encoded (format_of kind) (start ++ map Script asks) ps
     → filter_map (read_on kind) ps ≡ asked_under (map (format_of kind).id_of (drop (length start) ps)) asks
 plan_read kind [] asks ps fixed can encoded = script_read kind asks ps can encoded ∙ ap (λ l. asked_under (map (format_of kind).id_of l) asks) (sym (drop_none ps))
 plan_read kind (a ∷ start) asks [] fixed can encoded = refl
@@ -83,7 +84,7 @@ take_front [] rest (suc n) e = absurd (cc)
 take_front (x ∷ xs) rest zero e = absurd (cc)
 take_front (x ∷ xs) rest (suc n) e = ap (λ l. x ∷ l) (take_front xs rest n (omega (arith, e)))
 
-first_asked : (order : Order) (sent got server_sent server_got : List (List ℕ)) (served : List Served) (told : List Reply) → AllByRecursion (IsAskable order.kind) order.asks
+first_asked : (order : Order) (sent got server_sent server_got : List Item) (served : List Served) (told : List Reply) → AllByRecursion (IsAskable order.kind) order.asks
     → IsProtocolRun (format_of order.kind) (plan_of order) sent got server_sent server_got served told → map (λ s. s.request) served ≡ take (served_count order) (asked_under (script_ids order sent) order.asks)
 first_asked order sent got server_sent server_got served told can run =
     let requests = filter (format_of order.kind).is_request sent in

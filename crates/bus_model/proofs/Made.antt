@@ -1,8 +1,9 @@
 -- For each plan and for calls that fit it there are lists of a run: no field of a run excludes another one.
-use Rattle.std.proofs.Common.{◌≡◌, ℕ, zero, suc, ◌+◌, ◌≤◌, ◌^◌, Bool, true, false, List, [], ◌∷◌, ◌++◌, map, length, length-append, filter, refl, sym, ap, ◌∙◌, subst, arith, Some, None}
-use Rattle.std.specs.Prelude.{◌==◌, ◌&&◌, ◌||◌, filter_map}
+use Rattle.std.proofs.Common.{◌≡◌, ℕ, zero, suc, ◌+◌, ◌<◌, ◌≤◌, ◌^◌, Bool, true, false, cond, List, [], ◌∷◌, ◌++◌, map, length, length-append, filter, refl, sym, ap, ◌∙◌, subst, arith, Some, None}
+use Rattle.std.specs.Prelude.{◌==◌, ◌&&◌, ◌||◌, count_by, filter_map}
 use Rattle.std.specs.List.{AllByRecursion}
 use Rattle.std.proofs.lemmas.List.{append-nil}
+use Rattle.std.proofs.lemmas.List.Sums.{sum_by-append, sum_by-cons}
 use Rattle.std.proofs.lemmas.List.Elements.{filter-append, filter_map-append}
 use Rattle.std.proofs.lemmas.Bool.Decides.{nat_tests}
 use Rattle.scsi_disk.proofs.RoomLaws.{by_test}
@@ -15,7 +16,53 @@ use Rattle.channel_model.specs.Asker.{Encoded}
 use Rattle.channel_model.specs.Server.{Serves, ServesAsk, ServesOne, IsCall, answered}
 use Rattle.channel_model.specs.Channel.{RequestPlan, count_of, held_of, AllFixed, AllAsk, IsRequestPlan, asks_of, IsProtocolRun}
 
-module _ {P A Q R : Type 0} (s : WireFormat P A Q R) (keeps : Keeps s) where
+here : {X : Type 0} (f : X → Bool) (x : X) (xs : List X) → f x ≡ true → count_by f (x ∷ xs) ≡ 1 + count_by f xs
+here f x xs e = sum_by-cons (λ y. cond (f y) 1 0) x xs ∙ ap (λ b. cond b 1 0 + count_by f xs) e
+
+past : {X : Type 0} (f : X → Bool) (x : X) (xs : List X) → f x ≡ false → count_by f (x ∷ xs) ≡ count_by f xs
+past f x xs e = omega (arith, sum_by-cons (λ y. cond (f y) 1 0) x xs, ap (λ b. cond b 1 0 + count_by f xs) e)
+
+count_by-append : {X : Type 0} (f : X → Bool) (xs ys : List X) → count_by f (xs ++ ys) ≡ count_by f xs + count_by f ys
+count_by-append f xs ys = sum_by-append (λ y. cond (f y) 1 0) xs ys
+
+right_off : (a : Bool) → (a && false) ≡ false
+right_off true = refl
+right_off false = refl
+
+off : (a b : Bool) → (a && (b && false)) ≡ false
+off a true = right_off a
+off a false = right_off a
+
+second : (a b c : Bool) → (a && (b && c)) ≡ true → b ≡ true
+second true true c h = refl
+second true false c h = cc
+second false b c h = cc
+
+third : (a b c : Bool) → (a && (b && c)) ≡ true → c ≡ true
+third true true c h = h
+third true false c h = cc
+third false b c h = cc
+
+-- these are as they are read
+abbrev pub AllSo : {P : Type 0} → (P → P) → List P → Type 0
+AllSo said ps = AllByRecursion (λ p. said p ≡ p) ps
+
+so_append : {P : Type 0} (said : P → P) (xs ys : List P) → AllSo said xs → AllSo said ys → AllSo said (xs ++ ys)
+so_append said [] ys h k = k
+so_append said (x ∷ xs) ys h k = (h.0, so_append said xs ys h.1 k)
+
+pub so_same : {P : Type 0} (said : P → P) (ps : List P) → AllSo said ps → map said ps ≡ ps
+so_same said [] h = refl
+so_same said (p ∷ ps) h = (λ i. h.0 i ∷ so_same said ps h.1 i)
+
+-- what is written is as it is read: a packet that asks, what goes back with a reply that fits, or is fixed, and what acknowledges a message
+pub record ReadsSo {P A Q R : Type 0} (said : P → P) (s : WireFormat P A Q R) : Type 0 where
+  pub asks : (id : ℕ) (a : A) → said (s.encode id a) ≡ s.encode id a
+  pub given : (p : P) (q : Q) (r : R) (own : ℕ) → s.read p ≡ Some q → s.fits q r ≡ true → AllSo said (packets_of own (s.gives p r))
+  pub fixed : (p : P) (own : ℕ) → AllSo said (packets_in own (s.fixed p))
+  pub acked : (p : P) → said (s.ack p) ≡ s.ack p
+
+module _ {P A Q R : Type 0} (said : P → P) (s : WireFormat P A Q R) (keeps : Keeps s) (so : ReadsSo said s) where
   -- the packets that ask, under the ids from this one on
   abbrev pub packets : ℕ → List A → List P
   packets id [] = []
@@ -129,14 +176,15 @@ module _ {P A Q R : Type 0} (s : WireFormat P A Q R) (keeps : Keeps s) where
   record Back (held : Bool) (ps : List P) (n : ℕ) (calls : List (Call Q R)) : Type 0 where
     pub sent : List P
     pub serves : Serves s held ps n calls sent
+    pub as_read : AllSo said sent
 
   script_back : (held : Bool) (n id : ℕ) (asks : List A) (calls : List (Call Q R)) → AllAsk s asks → Fit n id asks calls → Back held (packets id asks) n calls
-  script_back held zero id [] calls ask fit = record { sent = []; serves = (fit, refl) }
-  script_back held (suc n) id [] calls ask fit = record { sent = []; serves = (fit, refl) }
+  script_back held zero id [] calls ask fit = record { sent = []; serves = (fit, refl); as_read = tt }
+  script_back held (suc n) id [] calls ask fit = record { sent = []; serves = (fit, refl); as_read = tt }
   script_back held zero id (a ∷ asks) calls ask fit =
       let p = s.encode id a in
       let q = ask.0 id in
-      record { sent = []; serves = subst (λ o. ServesOne s held p o zero calls [] (λ m later rest. Serves s held (packets (id + 1) asks) m later rest)) (sym q.1) (fit, refl) }
+      record { sent = []; serves = subst (λ o. ServesOne s held p o zero calls [] (λ m later rest. Serves s held (packets (id + 1) asks) m later rest)) (sym q.1) (fit, refl); as_read = tt }
   script_back held (suc n) id (a ∷ asks) [] ask fit = absurd fit
   script_back held (suc n) id (a ∷ asks) (c ∷ calls) ask fit =
       let p = s.encode id a in
@@ -149,12 +197,14 @@ module _ {P A Q R : Type 0} (s : WireFormat P A Q R) (keeps : Keeps s) where
       record {
         sent = [];
         serves = subst (λ o. ServesOne s held p o (suc n) (c ∷ calls) [] more) (sym fit.0) (call, subst (λ b. ServesAsk s b p n c calls [] more) (sym last) (no_more n id asks calls none fit.2, refl));
+        as_read = tt;
       })
       (λ no.
       record {
         sent = packets_of 0 (s.gives p c.reply) ++ on.sent;
         serves = subst (λ o. ServesOne s held p o (suc n) (c ∷ calls) (packets_of 0 (s.gives p c.reply) ++ on.sent) more) (sym fit.0)
             (call, subst (λ b. ServesAsk s b p n c calls (packets_of 0 (s.gives p c.reply) ++ on.sent) more) (sym no) (0, on.sent, refl, on.serves));
+        as_read = so_append said (packets_of 0 (s.gives p c.reply)) on.sent (so.given p c.request c.reply 0 fit.0 fit.1) on.as_read;
       })
     where
       ends : (held : Bool) (n : ℕ) → (held && n == 0) ≡ true → n ≡ 0
@@ -174,6 +224,7 @@ module _ {P A Q R : Type 0} (s : WireFormat P A Q R) (keeps : Keeps s) where
       record {
         sent = packets_in 0 (s.fixed p) ++ on.sent;
         serves = subst (λ o. ServesOne s held p o n calls (packets_in 0 (s.fixed p) ++ on.sent) (λ m later rest. Serves s held (packets (id + 1) start ++ ps) m later rest)) (sym (fixed.0 id)) (0, on.sent, refl, on.serves);
+        as_read = so_append said (packets_in 0 (s.fixed p)) on.sent (so.fixed p 0) on.as_read;
       }
 
   none_read : (id : ℕ) (start : List A) → AllFixed s start → filter_map s.read (packets id start) ≡ []
@@ -193,10 +244,67 @@ module _ {P A Q R : Type 0} (s : WireFormat P A Q R) (keeps : Keeps s) where
       map_first : (x : P) (xs : List P) (y : Q) → s.read x ≡ Some y → filter_map s.read (x ∷ xs) ≡ y ∷ filter_map s.read xs
       map_first x xs y e = grind (arith, e)
 
+  asked_so : (id : ℕ) (asks : List A) → AllSo said (packets id asks)
+  asked_so id [] = tt
+  asked_so id (a ∷ asks) = (so.asks id a, asked_so (id + 1) asks)
+
+  acked_so : (ps : List P) → AllSo said (acks_for s ps)
+  acked_so [] = tt
+  acked_so (p ∷ ps) =
+      by_test (s.is_message p)
+      (λ yes. subst (λ (l : List P). AllSo said (map s.ack l)) (sym (kept s.is_message p ps yes)) (so.acked p, acked_so ps))
+      (λ no. subst (λ (l : List P). AllSo said (map s.ack l)) (sym (dropped s.is_message p ps no)) (acked_so ps))
+
+  -- under each id one request at most has an answer
+  abbrev pub asks_at : ℕ → P → Bool
+  asks_at t p = s.is_request p && (s.waits p && (s.id_of p == t))
+
+  none_below : (t id : ℕ) (asks : List A) → id + length asks ≤ 2 ^ 64 → t < id → count_by (asks_at t) (packets id asks) ≡ 0
+  none_below t id [] low less = refl
+  none_below t id (a ∷ asks) low less =
+      let on = none_below t (id + 1) asks (omega (arith, low)) (omega (arith, less)) in
+      by_test (s.has_answer a)
+      (λ yes.
+      let own : s.id_of (s.encode id a) ≡ id = keeps.id_kept id a (omega (arith, low)) yes in
+      let other : (s.id_of (s.encode id a) == t) ≡ false = grind (arith, nat_tests, own, less) in
+      let not : asks_at t (s.encode id a) ≡ false = ap (λ b. s.is_request (s.encode id a) && (s.waits (s.encode id a) && b)) other ∙ off (s.is_request (s.encode id a)) (s.waits (s.encode id a)) in
+      past (asks_at t) (s.encode id a) (packets (id + 1) asks) not ∙ on)
+      (λ no.
+      let silent : s.waits (s.encode id a) ≡ false = keeps.waits_ask id a ∙ no in
+      let not : asks_at t (s.encode id a) ≡ false = ap (λ b. s.is_request (s.encode id a) && (b && (s.id_of (s.encode id a) == t))) silent ∙ right_off (s.is_request (s.encode id a)) in
+      past (asks_at t) (s.encode id a) (packets (id + 1) asks) not ∙ on)
+
+  one_each : (t id : ℕ) (asks : List A) → id + length asks ≤ 2 ^ 64 → count_by (asks_at t) (packets id asks) ≤ 1
+  one_each t id [] low = omega arith
+  one_each t id (a ∷ asks) low =
+      by_test (asks_at t (s.encode id a))
+      (λ yes.
+      let waits : s.waits (s.encode id a) ≡ true = second (s.is_request (s.encode id a)) (s.waits (s.encode id a)) (s.id_of (s.encode id a) == t) yes in
+      let own : s.id_of (s.encode id a) ≡ id = keeps.id_kept id a (omega (arith, low)) (sym (keeps.waits_ask id a) ∙ waits) in
+      let same : (s.id_of (s.encode id a) == t) ≡ true = third (s.is_request (s.encode id a)) (s.waits (s.encode id a)) (s.id_of (s.encode id a) == t) yes in
+      let is : t ≡ id = grind (arith, nat_tests, own, same) in
+      let rest = none_below t (id + 1) asks (omega (arith, low)) (omega (arith, is)) in
+      omega (arith, here (asks_at t) (s.encode id a) (packets (id + 1) asks) yes, rest))
+      (λ no. omega (arith, past (asks_at t) (s.encode id a) (packets (id + 1) asks) no, one_each t (id + 1) asks (omega (arith, low))))
+
+  -- what acknowledges a message asks nothing
+  acks_none : (t : ℕ) (ps : List P) → count_by (asks_at t) (acks_for s ps) ≡ 0
+  acks_none t [] = refl
+  acks_none t (p ∷ ps) =
+      by_test (s.is_message p)
+      (λ yes.
+      let silent : s.is_request (s.ack p) ≡ false = keeps.ack_asks (s.ack p) (keeps.acks p yes).0 in
+      let not : asks_at t (s.ack p) ≡ false = ap (λ b. b && (s.waits (s.ack p) && (s.id_of (s.ack p) == t))) silent in
+      subst (λ (l : List P). count_by (asks_at t) (map s.ack l) ≡ 0) (sym (kept s.is_message p ps yes)) (past (asks_at t) (s.ack p) (acks_for s ps) not ∙ acks_none t ps))
+      (λ no. subst (λ (l : List P). count_by (asks_at t) (map s.ack l) ≡ 0) (sym (dropped s.is_message p ps no)) (acks_none t ps))
+
   pub record Made (plan : RequestPlan A) (calls : List (Call Q R)) : Type 0 where
     pub sent : List P
     pub back : List P
     pub alone : Alone sent
+    pub turns : (t : ℕ) → count_by (asks_at t) sent ≤ 1
+    pub sent_so : AllSo said sent
+    pub back_so : AllSo said back
     pub runs : IsProtocolRun s plan sent back back sent calls (map (λ c. c.reply) (answered s (held_of plan.stop (length plan.script)) (count_of plan.stop (length plan.script)) calls))
 
   pub made : (plan : RequestPlan A) (calls : List (Call Q R)) → IsRequestPlan s plan → 1 + length (asks_of s plan) ≤ 2 ^ 64 → count_of plan.stop (length plan.script) ≤ length plan.script
@@ -216,6 +324,9 @@ module _ {P A Q R : Type 0} (s : WireFormat P A Q R) (keeps : Keeps s) where
       record {
         sent = sent;
         back = back.sent;
+        sent_so = so_append said asked acks (asked_so 1 (asks_of s plan)) (acked_so back.sent);
+        back_so = back.as_read;
+        turns = λ t. omega (arith, count_by-append (asks_at t) asked acks, one_each t 1 (asks_of s plan) low, acks_none t back.sent);
         alone = alone_both asked acks (alone_asked 1 (asks_of s plan)) (alone_acked back.sent);
         runs = record {
           front = ([], sym (append-nil sent));

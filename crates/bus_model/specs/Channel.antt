@@ -1,28 +1,48 @@
 -- The run of one channel in one phase.
-use Rattle.std.specs.Prelude.{ℕ, ◌≡◌, ◌-◌, min, nat_le, ◌||◌, Bool, true, false, List, [], ◌∷◌, ◌++◌, map, filter, take, drop, replicate, length, Option, Some, None, if◌then◌else◌}
+use Rattle.std.specs.Prelude.{ℕ, ◌≡◌, ◌≤◌, ◌+◌, ◌-◌, ◌==◌, min, nat_le, ◌&&◌, ◌||◌, count_by, Bool, true, false, List, [], ◌∷◌, ◌++◌, map, filter, take, drop, replicate, length, Option, Some, None, if◌then◌else◌}
 use Rattle.std.specs.List.{AllByRecursion}
 use Rattle.contact.specs.declared.kind.DeviceKind.{DeviceKind}
+use Rattle.page_kept.specs.declared.item.Item.{Item}
+use Rattle.page_kept.specs.Items.{item_of}
+use Rattle.channel_trace.specs.Runs.{IsFront}
 use Rattle.device_formats.specs.Formats.{format_of, asked_as}
-use Rattle.script_lines.specs.declared.line.Ask.{Ask}
+use Rattle.device_formats.specs.Items.{said_item}
 use Rattle.bus_script.specs.declared.outcome.LineResult.{LineResult}
 use Rattle.bus_script.specs.declared.outcome.LineResult.TheVariants.{RescindedServed, Unserved}
 use Rattle.io_edge.specs.declared.side.Side.{Side}
 use Rattle.io_edge.specs.declared.side.Side.TheVariants.{Guest, Host}
 use Rattle.ring_pair_laws.specs.Lists.{Lists}
+use Rattle.script_lines.specs.declared.line.Ask.{Ask}
+use Rattle.bus_script.specs.declared.outcome.Reply.{Reply}
+use Rattle.channel_model.specs.WireFormat.{WireFormat}
+use Rattle.device_formats.specs.declared.want.Want.{Want}
 use Rattle.channel_model.specs.Channel.{count_of, held_of, IsProtocolRun}
 use Rattle.channel_model.specs.Roles.{side_that_asks}
 use Rattle.channel_model.specs.Server.{answered}
 use Rattle.device_kinds.specs.Served.{Served, done_of}
 use Rattle.bus_model.specs.Orders.{Order, plan_of, startup_of}
 
--- what the end of this side sent and got
-abbrev pub sent_by : Side → Lists → List (List ℕ)
-sent_by Guest lists = lists.guest_sent
-sent_by Host lists = lists.host_sent
+-- packets, each with the page words that it has in these items: none past the items
+abbrev pub items_of : List (List ℕ) → List Item → List Item
+items_of [] is = []
+items_of (p ∷ ps) [] = item_of p [] ∷ items_of ps []
+items_of (p ∷ ps) (i ∷ is) = i ∷ items_of ps is
 
-abbrev pub got_by : Side → Lists → List (List ℕ)
-got_by Guest lists = lists.guest_got
-got_by Host lists = lists.host_got
+-- what the end of this side sent and got: all words of it
+abbrev pub items_sent : Side → Lists → List Item
+items_sent Guest lists = items_of lists.guest_sent lists.guest_sent_items
+items_sent Host lists = items_of lists.host_sent lists.host_sent_items
+
+abbrev pub items_got : Side → Lists → List Item
+items_got Guest lists = items_of lists.guest_got lists.guest_got_items
+items_got Host lists = items_of lists.host_got lists.host_got_items
+
+-- and as it is read
+abbrev pub sent_by : Side → Lists → List Item
+sent_by side lists = map said_item (items_sent side lists)
+
+abbrev pub got_by : Side → Lists → List Item
+got_by side lists = map said_item (items_got side lists)
 
 abbrev pub other : Side → Side
 other Guest = Host
@@ -39,7 +59,7 @@ is_held order = held_of order.stop (length order.asks)
 abbrev pub replies_to : Order → List Served → List Served
 replies_to order served = answered (format_of order.kind) (is_held order) (served_count order) served
 
--- What the end that asks and the end that serves sent and got is the run of the order's plan, with these calls: what was sent was got, as it was sent; the
+-- What the end that asks and the end that serves sent and got is the run of the order's plan, with these calls: what was sent was got, as it was sent, in packets with their page words as they are read; the
 -- packets of the one end ask the start-up's and the script's requests, in order; the packets of the other end answer them, in order, with what was served.
 -- Where the service stops, requests after the stop may be missing, and the last answer where it is held
 abbrev pub Carries : Side → Order → Lists → List Served → Type 0
@@ -47,7 +67,7 @@ Carries asks_at order lists served =
     IsProtocolRun (format_of order.kind) (plan_of order) (sent_by asks_at lists) (got_by asks_at lists) (sent_by (other asks_at) lists) (got_by (other asks_at) lists) served (map (λ c. c.reply) (replies_to order served))
 
 -- the ids of the packets that ask the script's requests, in order
-abbrev pub script_ids : Order → List (List ℕ) → List ℕ
+abbrev pub script_ids : Order → List Item → List ℕ
 script_ids order sent = map (format_of order.kind).id_of (drop (length (startup_of order)) (filter (format_of order.kind).is_request sent))
 
 -- what a device is asked by requests under these ids: a message for an adapter that has a request id has that of its packet, and any other request is as it stands in the script
@@ -61,15 +81,37 @@ abbrev pub asked_by : Side → Order → Lists → List Ask
 asked_by side order lists = asked_under (script_ids order (sent_by side lists)) order.asks
 
 -- a packet of the end that asks is a request, or acknowledges a message
-abbrev pub is_of_asker : DeviceKind → List ℕ → Bool
-is_of_asker kind p = (format_of kind).is_request p || (format_of kind).is_ack p
+abbrev pub is_of_asker : DeviceKind → Item → Bool
+is_of_asker kind i = (format_of kind).is_request i || (format_of kind).is_ack i
+
+-- Each end got the front of what the other one sent, with all page words: what it loaded of a page is what the other one had put there when it sent the packet.
+-- Where the service doesn't stop each got all of it
+pub record ItemsArrive (order : Order) (lists : Lists) : Type 0 where
+  pub at_host : IsFront (items_got Host lists) (items_sent Guest lists)
+  pub at_guest : IsFront (items_got Guest lists) (items_sent Host lists)
+  pub whole : order.stop ≡ None → (items_got Host lists ≡ items_sent Guest lists) × (items_got Guest lists ≡ items_sent Host lists)
+
+-- a request that has an answer went under this id, and an answer came under it
+abbrev pub asks_under : WireFormat Item Want Ask Reply → ℕ → Item → Bool
+asks_under s t p = s.is_request p && (s.waits p && (s.id_of p == t))
+
+abbrev pub answers_under : WireFormat Item Want Ask Reply → ℕ → Item → Bool
+answers_under s t p = s.is_answer p && (s.id_of p == t)
+
+-- Under each id the end that asks sent at most one request more than answers came: no two requests without an answer have one id. A disk's request lends the page of its id, or none, so no page is
+-- lent by two requests that aren't completed; one whose completion wasn't taken, as where a rescind came first, isn't used again
+abbrev pub InTurn : Order → Lists → Type 0
+InTurn order lists =
+    (t : ℕ) → count_by (asks_under (format_of order.kind) t) (sent_by (side_that_asks order.kind) lists) ≤ count_by (answers_under (format_of order.kind) t) (got_by (side_that_asks order.kind) lists) + 1
 
 -- and what was served are the first of these requests, in order: all of them where it doesn't stop. The end that asks sent nothing but requests and what
--- acknowledges messages
+-- acknowledges messages. Page words arrive as they were put there, and ids are used in turn
 pub record IsChannelRun (order : Order) (lists : Lists) (served : List Served) : Type 0 where
   pub carried : Carries (side_that_asks order.kind) order lists served
   pub alone : AllByRecursion (λ p. is_of_asker order.kind p ≡ true) (sent_by (side_that_asks order.kind) lists)
   pub serves : map (λ s. s.request) served ≡ take (served_count order) (asked_by (side_that_asks order.kind) order lists)
+  pub arrive : ItemsArrive order lists
+  pub turns : InTurn order lists
 
 abbrev pub rescinded_of : Served → LineResult
 rescinded_of s = RescindedServed s.serial

@@ -15,25 +15,25 @@ use Rattle.bus_script.specs.Report.{prints}
 use Rattle.device_formats.specs.Wants.{IsAskable}
 use Rattle.device_formats.specs.Formats.{format_of, fits_on}
 use Rattle.io_edge.specs.declared.side.Side.{Side}
-use Rattle.io_edge.specs.declared.side.Side.TheVariants.{Guest}
+use Rattle.io_edge.specs.declared.side.Side.TheVariants.{Guest, Host}
 use Rattle.ring_pair_laws.specs.Lists.{Lists}
 use Rattle.channel_model.specs.Outcome.{Outcome, Done as IsDone, RescindedServed as IsRescinded, Unserved as IsUnserved, lines_of}
 use Rattle.channel_model.specs.Acks.{acks_for}
 use Rattle.channel_model.specs.Roles.{side_that_asks}
 use Rattle.device_kinds.specs.Served.{Served, done_of}
 use Rattle.bus_model.specs.Orders.{Order, order_of, startup_of}
-use Rattle.bus_model.specs.Channel.{IsChannelRun, Carries, asked_under, asked_by, sent_by, other, served_count, is_held, replies_to, rescinded_of, outcomes_of}
+use Rattle.bus_model.specs.Channel.{IsChannelRun, Carries, asked_under, asked_by, sent_by, items_sent, items_got, other, served_count, is_held, replies_to, rescinded_of, outcomes_of}
 use Rattle.device_kinds.specs.Logs.{Recorded, served_from}
 use Rattle.bus_model.specs.Run.{Carried, IsBusRun, PhaseRuns, Known, seats_of, source_said, told_by}
 use Rattle.bus_model.specs.declared.channel_run.ChannelRun.{ChannelRun}
 use Rattle.device_kinds.specs.declared.history.DeviceHistory.{DeviceHistory}
 
--- what each end got is a front of what the other one sent, as it was sent, and all of it where the service doesn't stop; a guest that asks got all that its host sent
+-- What each end got is a front of what the other one sent, as it was sent, and all of it where the service doesn't stop. The end that asks got all that the other one sent, also where it does
 pub record Arrived (order : Order) (lists : Lists) : Type 0 where
-  pub at_host : IsFront lists.host_got lists.guest_sent
-  pub at_guest : IsFront lists.guest_got lists.host_sent
-  pub whole : order.stop ≡ None → (lists.host_got ≡ lists.guest_sent) × (lists.guest_got ≡ lists.host_sent)
-  pub settled : side_that_asks order.kind ≡ Guest → lists.guest_got ≡ lists.host_sent
+  pub at_host : IsFront (items_got Host lists) (items_sent Guest lists)
+  pub at_guest : IsFront (items_got Guest lists) (items_sent Host lists)
+  pub whole : order.stop ≡ None → (items_got Host lists ≡ items_sent Guest lists) × (items_got Guest lists ≡ items_sent Host lists)
+  pub settled : items_got (side_that_asks order.kind) lists ≡ items_sent (other (side_that_asks order.kind)) lists
 
 abbrev pub Arrives : Type 0
 Arrives = (order : Order) (lists : Lists) (served : List Served) → IsChannelRun order lists served → Arrived order lists

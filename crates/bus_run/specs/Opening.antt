@@ -7,6 +7,7 @@ use Rattle.device_any.specs.Seats.{kind_at}
 use Rattle.device_any.specs.declared.device_seat.DeviceSeat.{DeviceSeat}
 use Rattle.bus_model.specs.Orders.{Order}
 use Rattle.bus_threads.specs.Pairs.{Pairing, AreOnChannel, Opens}
+use Rattle.worker_pair.specs.Pairs.{pages_on}
 use Rattle.bus_plan.specs.Plans.{order_by}
 use Rattle.bus_plan.specs.declared.opening.ChannelOrder.{ChannelOrder}
 use Rattle.bus_run.specs.Devices.{Suits, box_at}
@@ -64,7 +65,7 @@ pub record IsStill (old new : DeviceBox) : Type 0 where
 -- a channel was opened as the settings say and as was ordered, with this seat
 pub record IsOpenedWith (settings : Settings) (relid : ℕ) (order : Order) (seat : DeviceSeat) (pair : Pairing) : Type 0 where
   pub opens : Opens order seat pair
-  pub channel : AreOnChannel relid (512 * settings.pages) settings.window pair
+  pub channel : AreOnChannel relid (512 * settings.pages) (pages_on order.kind settings.window) settings.window pair
 
 -- a channel and the seat that it has
 pub record Given : Type 0 where

@@ -5,4 +5,6 @@ pub mod Asked
 pub mod Running
 pub mod Each
 pub mod Alone
+pub mod ItemJoins
+pub mod Turns
 pub mod Stops

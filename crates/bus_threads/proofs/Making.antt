@@ -9,7 +9,7 @@ use Rattle.io_edge.specs.declared.side.Side.TheVariants.{Guest, Host}
 use Rattle.worker_requester.specs.Asking.{Asking}
 use Rattle.ring_core.specs.Seen.{Seen}
 use Rattle.ring_machine.specs.declared.state.EndState.{EndState}
-use Rattle.ring_seat.specs.Seats.{new_end}
+use Rattle.ring_seat.specs.Whole.{new_paged}
 use Rattle.ring_seat.specs.declared.table_seat.TableSeat.{TableSeat}
 use Rattle.worker_server.specs.Serving.{Serving}
 use Rattle.channel_model.specs.Channel.{count_of, held_of}
@@ -68,34 +68,41 @@ has_window p seat (Asks a) (Serves s) asked served = (asked.window, tt)
 has_window p seat (Serves s) serves asked served = absurd asked
 
 -- the rings have as many cells as the new ends
-cells_are : (e : Seen TableSeat) (cells : ℕ) (side : Side) (w : Worker) → e.state ≡ new_end cells side → (end_at w).state ≡ e.state → (end_at w).state.machine.cells ≡ cells
-cells_are e cells side w new at = ap (λ (s : EndState). s.machine.cells) (at ∙ new)
+cells_are : (e : Seen TableSeat) (cells pages : ℕ) (side : Side) (w : Worker) → e.state ≡ new_paged cells pages side → (end_at w).state ≡ e.state → (end_at w).state.machine.cells ≡ cells
+cells_are e cells pages side w new at = ap (λ (s : EndState). s.machine.cells) (at ∙ new)
 
-on_channel_at : (side : Side) (p : Planned) (seat : DeviceSeat) (cells : ℕ) (g h : Seen TableSeat) (pair : Pairing) → g.state ≡ new_end cells Guest → h.state ≡ new_end cells Host
-    → ((end_at pair.guest).state ≡ g.state) × ((end_at pair.host).state ≡ h.state) → AreMadeAt side p seat pair.guest pair.host → AreOnChannel p.relid cells p.window pair
-on_channel_at Guest p seat cells g h pair g_new h_new at made =
+pages_are : (e : Seen TableSeat) (cells pages : ℕ) (side : Side) (w : Worker) → e.state ≡ new_paged cells pages side → (end_at w).state ≡ e.state → (end_at w).state.pages.count ≡ pages
+pages_are e cells pages side w new at = ap (λ (s : EndState). s.pages.count) (at ∙ new)
+
+on_channel_at : (side : Side) (p : Planned) (seat : DeviceSeat) (cells pages : ℕ) (g h : Seen TableSeat) (pair : Pairing) → g.state ≡ new_paged cells pages Guest → h.state ≡ new_paged cells pages Host
+    → ((end_at pair.guest).state ≡ g.state) × ((end_at pair.host).state ≡ h.state) → AreMadeAt side p seat pair.guest pair.host → AreOnChannel p.relid cells pages p.window pair
+on_channel_at Guest p seat cells pages g h pair g_new h_new at made =
     let relids = has_relid p seat pair.guest pair.host made.0 made.1 in
     let windows = has_window p seat pair.guest pair.host made.0 made.1 in
     record {
       guest_relid = relids.0;
       host_relid = relids.1;
-      guest_cells = cells_are g cells Guest pair.guest g_new at.0;
-      host_cells = cells_are h cells Host pair.host h_new at.1;
+      guest_cells = cells_are g cells pages Guest pair.guest g_new at.0;
+      host_cells = cells_are h cells pages Host pair.host h_new at.1;
+      guest_pages = pages_are g cells pages Guest pair.guest g_new at.0;
+      host_pages = pages_are h cells pages Host pair.host h_new at.1;
       guest_window = windows.0;
       host_window = windows.1;
     }
-on_channel_at Host p seat cells g h pair g_new h_new at made =
+on_channel_at Host p seat cells pages g h pair g_new h_new at made =
     let relids = has_relid p seat pair.host pair.guest made.1 made.0 in
     let windows = has_window p seat pair.host pair.guest made.1 made.0 in
     record {
       guest_relid = relids.1;
       host_relid = relids.0;
-      guest_cells = cells_are g cells Guest pair.guest g_new at.0;
-      host_cells = cells_are h cells Host pair.host h_new at.1;
+      guest_cells = cells_are g cells pages Guest pair.guest g_new at.0;
+      host_cells = cells_are h cells pages Host pair.host h_new at.1;
+      guest_pages = pages_are g cells pages Guest pair.guest g_new at.0;
+      host_pages = pages_are h cells pages Host pair.host h_new at.1;
       guest_window = windows.1;
       host_window = windows.0;
     }
 
-pub on_channel : (p : Planned) (seat : DeviceSeat) (cells : ℕ) (g h : Seen TableSeat) (pair : Pairing) → g.state ≡ new_end cells Guest → h.state ≡ new_end cells Host
-    → ((end_at pair.guest).state ≡ g.state) × ((end_at pair.host).state ≡ h.state) → AreMadeAt (side_that_asks p.kind) p seat pair.guest pair.host → AreOnChannel p.relid cells p.window pair
-on_channel p seat cells g h pair g_new h_new at made = on_channel_at (side_that_asks p.kind) p seat cells g h pair g_new h_new at made
+pub on_channel : (p : Planned) (seat : DeviceSeat) (cells pages : ℕ) (g h : Seen TableSeat) (pair : Pairing) → g.state ≡ new_paged cells pages Guest → h.state ≡ new_paged cells pages Host
+    → ((end_at pair.guest).state ≡ g.state) × ((end_at pair.host).state ≡ h.state) → AreMadeAt (side_that_asks p.kind) p seat pair.guest pair.host → AreOnChannel p.relid cells pages p.window pair
+on_channel p seat cells pages g h pair g_new h_new at made = on_channel_at (side_that_asks p.kind) p seat cells pages g h pair g_new h_new at made

@@ -66,12 +66,14 @@ OpensBehind order seat earlier p = OpensAt order seat earlier p.guest p.host
 abbrev pub Opens : Order → DeviceSeat → Pairing → Type 0
 Opens order seat p = OpensBehind order seat [] p
 
--- both workers have the channel of this relid, whose rings have so many cells, and so many requests can be open on it
-pub record AreOnChannel (relid cells window : ℕ) (p : Pairing) : Type 0 where
+-- both workers have the channel of this relid, whose rings have so many cells, and which has so many data pages; and so many requests can be open on it
+pub record AreOnChannel (relid cells pages window : ℕ) (p : Pairing) : Type 0 where
   pub guest_relid : relid_at p.guest ≡ relid
   pub host_relid : relid_at p.host ≡ relid
   pub guest_cells : (end_at p.guest).state.machine.cells ≡ cells
   pub host_cells : (end_at p.host).state.machine.cells ≡ cells
+  pub guest_pages : (end_at p.guest).state.pages.count ≡ pages
+  pub host_pages : (end_at p.host).state.pages.count ≡ pages
   pub guest_window : HasWindow window p.guest
   pub host_window : HasWindow window p.host
 

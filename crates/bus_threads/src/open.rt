@@ -1,6 +1,6 @@
 //! A channel is opened with its two workers.
 ghost use Rattle.std.specs.Prelude.{◌≡◌, ◌≤◌, ◌*◌, [], length, IfOk};
-ghost use Rattle.worker_pair.specs.Pairs.{ArePair};
+ghost use Rattle.worker_pair.specs.Pairs.{ArePair, pages_on};
 ghost use Rattle.worker_pair.specs.Plans.{AllCarried, CanStop, stop_of};
 ghost use Rattle.device_any.specs.Seats.{served_at, kind_at, left_at};
 ghost use Rattle.bus_threads.specs.Pairs.{AreOnChannel, Opens};
@@ -20,6 +20,17 @@ fn paired(guest: GuestWorker, host: HostWorker) -> Pair
     ensures { (result.guest ≡ guest) × (result.host ≡ host) }
 {
     Pair { guest, host }
+}
+
+// How many data pages a channel of this kind has, on which so many requests can be open: one for each of a disk's, whose data stands in them.
+fn data_pages(kind: DeviceKind, window: u32) -> u32
+    ensures value { result ≡ pages_on kind window }
+    ensures most { result ≤ window }
+{
+    match kind {
+        DeviceKind::Disk => window,
+        DeviceKind::Beat | DeviceKind::Down | DeviceKind::Net => 0,
+    }
 }
 
 /// Opens a channel whose rings have so many pages, with its two workers, and takes all memory that they need. `sub` is its number among the channels of its
@@ -47,7 +58,7 @@ pub fn open_pair(
     requires fresh { served_at seat ≡ [] }
     requires left { length asks.items ≤ left_at seat }
     ensures opens { IfOk result (Opens (record { kind = kind; sub = sub; subs = subs; asks = asks.items; stop = stop_of stop }) seat) }
-    ensures channel { IfOk result (AreOnChannel relid (512 * pages) window) }
+    ensures channel { IfOk result (AreOnChannel relid (512 * pages) (pages_on kind window) window) }
 {
     let plan = ChannelPlan {
         relid,
@@ -58,7 +69,7 @@ pub fn open_pair(
         count: asks.len() as u32,
         stop,
     };
-    let (guest, host) = ChannelMem::make(alloc, pages, 0)?;
+    let (guest, host) = ChannelMem::make(alloc, pages, data_pages(kind, window))?;
     let (guest, host) = make_both(alloc, guest, host, seat, plan, asks)?;
     Ok(paired(guest, host))
 }

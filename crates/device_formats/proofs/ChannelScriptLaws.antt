@@ -3,6 +3,8 @@ use Rattle.std.proofs.Common.{◌≡◌, ℕ, zero, suc, ◌+◌, ◌-◌, ◌<�
 use Rattle.std.specs.Prelude.{map, is_some}
 use Rattle.std.specs.List.{AllByRecursion}
 use Rattle.std.proofs.lemmas.List.{length-map}
+use Rattle.page_kept.specs.declared.item.Item.{Item}
+use Rattle.channel_protocol.specs.Paged.{packet_of}
 use Rattle.contact.specs.declared.kind.DeviceKind.{DeviceKind}
 use Rattle.contact.specs.declared.kind.DeviceKind.TheVariants.{Beat, Down, Disk, Net}
 use Rattle.rndis_msg.specs.declared.rndis.Rndis.{Rndis}
@@ -15,7 +17,7 @@ use Rattle.device_formats.specs.declared.want.Want.TheVariants.{Starts, Script}
 use Rattle.channel_model.specs.Lift.{mapped}
 use Rattle.device_formats.specs.Codecs.{Codec, result_in}
 use Rattle.device_formats.specs.Services.{service_fixed, service_codec}
-use Rattle.device_formats.specs.Disks.{done_packet, disk_fixed, disk_codec}
+use Rattle.device_formats.specs.PageDisks.{page_codec}
 use Rattle.device_formats.specs.Nets.{rndis_packet, net_done, init_done, net_said}
 use Rattle.device_formats.specs.Kinds.{net_request, services, disks, nets}
 use Rattle.device_formats.specs.Wants.{startup, start_answered, step_at, CanBe, IsNetAsk, IsAskable}
@@ -82,19 +84,19 @@ some_mapped : {X Y : Type 0} (f : X → Y) (o : Option X) (y : Y) → mapped f o
 some_mapped f None y h = cc
 some_mapped f (Some x) y h = refl
 
-says_so : {A Q R : Type 0} (x : Codec (List ℕ) A Q R) (request : Q → Ask) (reply : R → Reply) (a : A) (before : Option (List ℕ)) (p : List ℕ) (ask : Ask) → mapped request (x.read (x.encode 0 a)) ≡ Some ask → mapped reply (result_in x a before p) ≡ mapped reply (x.said p)
+says_so : {P A Q R : Type 0} (x : Codec P A Q R) (request : Q → Ask) (reply : R → Reply) (a : A) (before : Option P) (p : P) (ask : Ask) → mapped request (x.read (x.encode 0 a)) ≡ Some ask → mapped reply (result_in x a before p) ≡ mapped reply (x.said p)
 says_so x request reply a before p ask h = rw (some_mapped request (x.read (x.encode 0 a)) ask h) refl
 
-net_says : (ask : Ask) (before : Option (List ℕ)) (p : List ℕ) → CanBe IsNetAsk (net_request ask) → (format_of Net).result (Script ask) before p ≡ said_on Net before p
-net_says (AskIc q) before p can = absurd can
-net_says (AskDisk q) before p can = absurd can
-net_says (AskNet m) before p can = ap (λ t. mapped nets.reply (cond t (net_said before p) None)) can
+net_says : (ask : Ask) (before : Option Item) (i : Item) → CanBe IsNetAsk (net_request ask) → (format_of Net).result (Script ask) before i ≡ said_on Net before i
+net_says (AskIc q) before i can = absurd can
+net_says (AskDisk q) before i can = absurd can
+net_says (AskNet m) before i can = ap (λ t. mapped nets.reply (cond t (net_said (mapped packet_of before) i.packet) None)) can
 
-answer_says : (kind : DeviceKind) (ask : Ask) (before : Option (List ℕ)) (p : List ℕ) → IsAskable kind ask → (format_of kind).result (Script ask) before p ≡ said_on kind before p
-answer_says Beat ask before p can = says_so (service_codec Beat) services.request services.reply (services.ask (Script ask)) before p (asked_as 0 ask) (asked_is Beat 0 ask can)
-answer_says Down ask before p can = says_so (service_codec Down) services.request services.reply (services.ask (Script ask)) before p (asked_as 0 ask) (asked_is Down 0 ask can)
-answer_says Disk ask before p can = says_so disk_codec disks.request disks.reply (disks.ask (Script ask)) before p (asked_as 0 ask) (asked_is Disk 0 ask can)
-answer_says Net ask before p can = net_says ask before p can
+answer_says : (kind : DeviceKind) (ask : Ask) (before : Option Item) (i : Item) → IsAskable kind ask → (format_of kind).result (Script ask) before i ≡ said_on kind before i
+answer_says Beat ask before i can = says_so (service_codec Beat) services.request services.reply (services.ask (Script ask)) (mapped packet_of before) i.packet (asked_as 0 ask) (asked_is Beat 0 ask can)
+answer_says Down ask before i can = says_so (service_codec Down) services.request services.reply (services.ask (Script ask)) (mapped packet_of before) i.packet (asked_as 0 ask) (asked_is Down 0 ask can)
+answer_says Disk ask before i can = says_so page_codec disks.request disks.reply (disks.ask (Script ask)) before i (asked_as 0 ask) (asked_is Disk 0 ask can)
+answer_says Net ask before i can = net_says ask before i can
 
 module _ (t : ChannelScript) (can : CanAsk t.kind t.asks) where
   pub length-asks : length (asks_of t) ≡ length (startup t.kind t.sub t.subs) + length t.asks
@@ -114,12 +116,12 @@ module _ (t : ChannelScript) (can : CanAsk t.kind t.asks) where
   can_at j ask h = all_at (IsAskable t.kind) t.asks j ask can.can h
 
   -- an answer says nothing to a request of the start-up
-  pub start_says_nothing : (k : ℕ) (a : Want) (before : Option (List ℕ)) (p : List ℕ) → k < length (startup t.kind t.sub t.subs) → slice_get (asks_of t) k ≡ Some a → (format_of t.kind).result a before p ≡ None
+  pub start_says_nothing : (k : ℕ) (a : Want) (before : Option Item) (p : Item) → k < length (startup t.kind t.sub t.subs) → slice_get (asks_of t) k ≡ Some a → (format_of t.kind).result a before p ≡ None
   start_says_nothing k a before p lt h =
       ap (λ x. (format_of t.kind).result x before p) (at_start k a lt h) ∙ (keeps t.kind).no_result 0 (Starts (step_at t.subs k)) before p (step_read t.kind 0 (step_at t.subs k))
 
   -- to one of the script it says what the answer says
-  pub script_says : (k : ℕ) (a : Want) (before : Option (List ℕ)) (p : List ℕ) → length (startup t.kind t.sub t.subs) ≤ k → slice_get (asks_of t) k ≡ Some a → (format_of t.kind).result a before p ≡ said_on t.kind before p
+  pub script_says : (k : ℕ) (a : Want) (before : Option Item) (p : Item) → length (startup t.kind t.sub t.subs) ≤ k → slice_get (asks_of t) k ≡ Some a → (format_of t.kind).result a before p ≡ said_on t.kind before p
   script_says k a before p le h =
       let at = at_script k a le h in
       ap (λ x. (format_of t.kind).result x before p) at.2 ∙ answer_says t.kind at.0 before p (can_at (k - length (startup t.kind t.sub t.subs)) at.0 at.1)
@@ -137,10 +139,6 @@ module _ (t : ChannelScript) (can : CanAsk t.kind t.asks) where
 pub listed_service : (kind : DeviceKind) (p : List ℕ) → listed_packet (service_fixed kind p) ≡ service_fixed kind p ∷ []
 unfolding service_fixed
 listed_service kind p = refl
-
-pub listed_disk : (p : List ℕ) → listed_packet (disk_fixed p) ≡ disk_fixed p ∷ []
-unfolding disk_fixed done_packet
-listed_disk p = refl
 
 pub listed_rndis : (id : ℕ) (m : Rndis) → listed_packet (rndis_packet id m) ≡ rndis_packet id m ∷ []
 unfolding rndis_packet

@@ -1,55 +1,25 @@
--- The disk's reply is read in the answer that carries it.
-use Rattle.std.proofs.Common.{◌≡◌, ℕ, ◌<◌, ◌≤◌, ◌==◌, Bool, true, false, cond, not, ◌&&◌, nat_lt, List, [], ◌∷◌, ◌++◌, length, Option, Some, None, Result, Ok, Err, refl, sym, ap, subst, ◌∙◌, lit<, lit≤, arith, length-append}
+-- The storage packets with which a host replies are in form, and so are the replies.
+use Rattle.std.proofs.Common.{◌≡◌, ℕ, ◌<◌, ◌≤◌, Bool, true, false, cond, not, ◌&&◌, nat_lt, List, length, Option, Some, None, Result, Ok, Err, refl, sym, ap, ◌∙◌, lit<, lit≤, arith}
 use Rattle.std.specs.Prelude.{nat_le, is_none}
 use Rattle.std.specs.List.{AllByRecursion, list_all}
 use Rattle.std.proofs.lemmas.Bool.Decides.{nat_tests}
 use Rattle.wire_table.proofs.RowLaws.{IsBytes}
-use Rattle.pkt_desc.specs.Packets.{id_of, kind_of, completion_packet}
 use Rattle.scsi_disk.specs.Commands.{command_of}
 use Rattle.scsi_disk.specs.DiskModel.{most_back, IsSized}
-use Rattle.scsi_disk.specs.declared.command.Command.{Command}
-use Rattle.scsi_disk.specs.declared.command.Command.TheVariants.{TestUnitReady, Inquiry, ReadCapacity, Read as ReadBlocks, Write, SynchronizeCache, LongCapacity}
 use Rattle.scsi_disk.specs.declared.request.DiskRequest.{DiskRequest}
 use Rattle.scsi_disk.specs.declared.reply.DiskReply.{DiskReply}
 use Rattle.scsi_disk.specs.declared.reply.DiskReply.TheVariants.{Good, Check}
 use Rattle.stor_proto.specs.Fields.{number_at, with_number}
-use Rattle.stor_proto.specs.Packets.{vstor_bytes, vstor_fault, InForm, IsAllowed}
-use Rattle.stor_proto.specs.Srbs.{cdb_in, names_disk, data_for, request_of, moved_by, sense_of, reply_of, done_of}
+use Rattle.stor_proto.specs.Packets.{vstor_fault, InForm, IsAllowed}
+use Rattle.stor_proto.specs.Srbs.{cdb_in, names_disk, data_for, request_of, moved_by, sense_of, reply_of}
 use Rattle.stor_proto.specs.declared.vstor.Vstor.{Vstor}
 use Rattle.stor_proto.specs.declared.stop.SrbStop.{SrbStop}
 use Rattle.stor_proto.proofs.PacketLaws.{vstor_found}
-use Rattle.stor_proto.proofs.SrbLaws.{good_read_back, good_read_more, check_read_back}
-use Rattle.device_formats.specs.Packets.{is_of, is_inband, is_completion, content_of}
-use Rattle.device_formats.specs.Disks.{vstor_of, data_of, has_vstor, done_packet, disk_waits, asked_by, disk_asked, disk_read, back_of, disk_answer, disk_result, disk_fits}
+use Rattle.device_formats.specs.Packets.{content_of}
+use Rattle.device_formats.specs.Disks.{vstor_of, has_vstor, back_of, disk_fits}
 use Rattle.device_formats.proofs.ByteLaws.{from_all, with_number_bytes, with_bytes_bytes, all_from_test, test_from_all}
-use Rattle.device_formats.proofs.PacketLaws.{content_bytes, is_of_kept, right}
-use Rattle.device_formats.proofs.VstorLaws.{Formed, formed, in_form, read_again, zeros_behind, length-vstor, length-with_bytes, number_put}
-use Rattle.device_formats.proofs.DiskLaws.{cond_some}
-
--- what it means that a packet asks the disk
-pub record Asks (p : List ℕ) (q : DiskRequest) : Type 0 where
-  pub waits : disk_waits p ≡ true
-  pub srb : (vstor_of p).operation ≡ 3
-  pub request : request_of (vstor_of p) (data_of p) ≡ Ok q
-  pub few : most_back (command_of q.cdb) ≤ 2048
-
-asked_some : (r : Result DiskRequest SrbStop) (q : DiskRequest) → asked_by r ≡ Some q → (r ≡ Ok q) × (most_back (command_of q.cdb) ≤ 2048)
-asked_some (Err stop) q h = cc
-asked_some (Ok z) q h =
-    let two = cond_some (nat_le (most_back (command_of z.cdb)) 2048) (Some z) q h in
-    let some = two.1 in
-    let same : z ≡ q = cc in
-    let few : most_back (command_of z.cdb) ≤ 2048 = grind (arith, nat_tests, two.0) in
-    (ap Ok same, subst (λ x. most_back (command_of x.cdb) ≤ 2048) same few)
-
-pub asks : (p : List ℕ) (q : DiskRequest) → disk_read p ≡ Some q → Asks p q
-unfolding disk_read disk_asked
-asks p q h =
-    let v = vstor_of p in
-    let one = cond_some (disk_waits p) (disk_asked v (data_of p)) q h in
-    let two = cond_some (v.operation == 3) (asked_by (request_of v (data_of p))) q one.1 in
-    let three = asked_some (request_of v (data_of p)) q two.1 in
-    record { waits = one.0; srb = grind (arith, nat_tests, two.0); request = three.0; few = three.1 }
+use Rattle.device_formats.proofs.PacketLaws.{content_bytes}
+use Rattle.device_formats.proofs.VstorLaws.{Formed, length-with_bytes, number_put}
 
 none_is : {X : Type 0} (o : Option X) → is_none o ≡ true → o ≡ None
 none_is None h = refl
@@ -61,10 +31,6 @@ unfolding has_vstor vstor_of
 vstor_form p h =
     let found = vstor_found (content_of p) (content_bytes p) (none_is (vstor_fault (content_of p)) h) in
     (found.0, found.1)
-
-pub waits_has : (p : List ℕ) → disk_waits p ≡ true → has_vstor p ≡ true
-unfolding disk_waits
-waits_has p h = right (is_inband p) (has_vstor p) h
 
 ok_from : (b : Bool) (e : SrbStop) (x : Result DiskRequest SrbStop) (q : DiskRequest) → cond b (Err e) x ≡ Ok q → x ≡ Ok q
 ok_from true e x q h = cc
@@ -155,54 +121,3 @@ reply_formed v q (Check key asc ascq) f h =
       len = length-with_bytes 16 (sense_of key asc ascq) r4 (omega (arith, l4)) ∙ l4;
       bytes = with_bytes_bytes 16 (sense_of key asc ascq) r4 (sense_bytes key asc ascq c.0 c.1 c.2) all;
     }
-
-write_done : (v : Vstor) → length v.rest ≡ 52 → (bytes : List ℕ) → length bytes ≤ 0 → done_of (reply_of v (Good bytes)) (bytes ++ zeros_behind (length bytes)) ≡ Some (Good bytes)
-write_done v len [] le = good_read_back v len [] (lit≤ tt) (omega arith)
-write_done v len (x ∷ xs) le = absurd (omega arith)
-
-good_done : (v : Vstor) → length v.rest ≡ 52 → (bytes : List ℕ) (k : Option Command) → command_of (cdb_in v) ≡ k → length bytes ≤ most_back k → most_back k ≤ 2048 → done_of (reply_of v (Good bytes)) (bytes ++ zeros_behind (length bytes)) ≡ Some (Good bytes)
-good_done v len bytes None is le few = good_read_more v len bytes (zeros_behind (length bytes)) (omega arith) (ap (λ c. moved_by c (length bytes)) is)
-good_done v len bytes (Some TestUnitReady) is le few = good_read_more v len bytes (zeros_behind (length bytes)) (omega arith) (ap (λ c. moved_by c (length bytes)) is)
-good_done v len bytes (Some (Inquiry s a)) is le few = good_read_more v len bytes (zeros_behind (length bytes)) (omega arith) (ap (λ c. moved_by c (length bytes)) is)
-good_done v len bytes (Some ReadCapacity) is le few = good_read_more v len bytes (zeros_behind (length bytes)) (omega arith) (ap (λ c. moved_by c (length bytes)) is)
-good_done v len bytes (Some (ReadBlocks l k)) is le few = good_read_more v len bytes (zeros_behind (length bytes)) (omega (arith, le, few)) (ap (λ c. moved_by c (length bytes)) is)
-good_done v len bytes (Some (Write l k)) is le few = write_done v len bytes le
-good_done v len bytes (Some SynchronizeCache) is le few = good_read_more v len bytes (zeros_behind (length bytes)) (omega arith) (ap (λ c. moved_by c (length bytes)) is)
-good_done v len bytes (Some (LongCapacity b a)) is le few = good_read_more v len bytes (zeros_behind (length bytes)) (omega arith) (ap (λ c. moved_by c (length bytes)) is)
-
-reply_done : (v : Vstor) (behind : List ℕ) (q : DiskRequest) (r : DiskReply) → length v.rest ≡ 52 → request_of v behind ≡ Ok q → most_back (command_of q.cdb) ≤ 2048 → disk_fits q r ≡ true
-    → done_of (reply_of v r) (back_of r ++ zeros_behind (length (back_of r))) ≡ Some r
-reply_done v behind q (Good bytes) len is few h =
-    good_done v len bytes (command_of q.cdb) (ap command_of (sym (cdb_read v behind q is))) (good_fits q bytes h).0 few
-reply_done v behind q (Check key asc ascq) len is few h = check_read_back v len key asc ascq ([] ++ zeros_behind 0)
-
--- what the answer with the disk's reply says is that reply
-pub reply_read : (p : List ℕ) (q : DiskRequest) (r : DiskReply) → disk_read p ≡ Some q → disk_fits q r ≡ true → disk_result (disk_answer p r) ≡ Some r
-unfolding disk_result disk_answer done_packet is_completion
-reply_read p q r h fits =
-    let read = asks p q h in
-    let v = vstor_of p in
-    let f = formed v (vstor_form p (waits_has p read.waits)).0 in
-    let w = reply_of v r in
-    let form = in_form w (reply_formed v q r f fits) in
-    let back = back_fits q r fits in
-    let a = completion_packet (id_of p) (vstor_bytes w ++ back_of r) in
-    let again = read_again 11 (id_of p) 0 w (back_of r) (lit< tt) form (refl, λ other. absurd (other refl)) back.1 in
-    let len = length-append (vstor_bytes w) (back_of r) in
-    let comes : is_of 11 a ≡ true = is_of_kept 11 (id_of p) 0 (vstor_bytes w ++ back_of r) (lit< tt) (omega (arith, len, length-vstor w form, back.0, read.few)) in
-    let op : ((vstor_of a).operation == 1) ≡ true = ap (λ x. x.operation == 1) again.vstor in
-    let test : (is_of 11 a && has_vstor a && ((vstor_of a).operation == 1)) ≡ true = rw (comes, again.has, op) refl in
-    ap (λ b. cond b (done_of (vstor_of a) (data_of a)) None) test ∙ ap (λ x. done_of x (data_of a)) again.vstor ∙ ap (done_of w) again.behind
-    ∙ reply_done v (data_of p) q r f.len read.request read.few fits
-
--- a packet that asks the disk is short
-pub asks_short : (p : List ℕ) → disk_waits p ≡ true → length p ≤ 384
-unfolding disk_waits is_inband
-asks_short p h =
-    let one = both (is_of 6 p) (has_vstor p) h in
-    let le = right (kind_of p == 6) (nat_le (length p) 384) one.0 in
-    grind (arith, nat_tests, le)
-
--- the disk's reply to what a packet asks is short
-pub back_short : (p : List ℕ) (q : DiskRequest) (r : DiskReply) → disk_read p ≡ Some q → disk_fits q r ≡ true → length (back_of r) ≤ 2048
-back_short p q r h fits = omega (arith, (asks p q h).few, (back_fits q r fits).0)

@@ -1,5 +1,5 @@
 -- Each kind of channel keeps to the laws of a wire format.
-use Rattle.std.proofs.Common.{◌≡◌, ℕ, zero, suc, ◌+◌, ◌==◌, Bool, true, false, List, [], ◌∷◌, Option, Some, None, Ok, ◌⊎◌, inl, inr, refl, sym, ap, subst, ◌∙◌, arith}
+use Rattle.std.proofs.Common.{◌≡◌, ℕ, zero, suc, ◌+◌, ◌==◌, true, false, List, [], ◌∷◌, Option, Some, None, Ok, ◌⊎◌, inl, inr, refl, sym, ap, subst, ◌∙◌, arith}
 use Rattle.std.specs.Prelude.{map, is_some, not}
 use Rattle.std.proofs.lemmas.Bool.Decides.{nat_tests}
 use Rattle.std.specs.List.{AllByRecursion}
@@ -20,75 +20,44 @@ use Rattle.script_lines.specs.declared.line.Ask.TheVariants.{Ic as AskIc, Disk a
 use Rattle.bus_script.specs.declared.outcome.Reply.{Reply}
 use Rattle.bus_script.specs.declared.outcome.Reply.TheVariants.{Ic as ReplyIc, Disk as ReplyDisk, Net as ReplyNet}
 use Rattle.pkt_desc.specs.Packets.{id_of}
+use Rattle.page_kept.specs.declared.item.Item.{Item}
+use Rattle.channel_protocol.specs.Paged.{bare_item}
+use Rattle.channel_protocol.proofs.InPackets.{keeps_in_packets, may_in_packets}
 use Rattle.channel_protocol.specs.Listed.{has_message_in, message_in}
 use Rattle.channel_model.specs.Amounts.{HasNoMessages, MayHaveMessages}
 use Rattle.channel_model.specs.WireFormat.{Keeps, Back, under_own}
 use Rattle.channel_model.specs.Channel.{AllFixed, AllAsk}
-use Rattle.channel_model.specs.Lift.{IsAmong, mapped, or_else, both_hold}
+use Rattle.channel_model.specs.Lift.{lift, mapped, or_else, both_hold}
 use Rattle.channel_model.proofs.Lifting.{lifts}
 use Rattle.device_formats.specs.declared.want.Want.TheVariants.{Starts, Script}
 use Rattle.device_formats.specs.Packets.{is_inband}
 use Rattle.device_formats.specs.Codecs.{WantOf, Step, Request, Codec, format_by}
 use Rattle.device_formats.specs.Services.{service_read, service_fixed, service_answer, service_fits, service_encode, service_codec}
-use Rattle.device_formats.specs.Disks.{disk_codec, IsDiskAsk}
+use Rattle.device_formats.specs.PageDisks.{page_codec, IsPageAsk}
 use Rattle.device_formats.specs.Nets.{net_format}
-use Rattle.device_formats.specs.Kinds.{ic_request, disk_request, net_request, ic_reply, disk_reply, net_reply, services, disks, nets}
+use Rattle.device_formats.specs.Kinds.{ic_request, disk_request, net_request, ic_reply, services, disks, nets}
 use Rattle.device_formats.specs.Wants.{startup, start_answered, CanBe, IsBeatAsk, IsDownAsk, IsNetAsk, IsAskable}
 use Rattle.device_formats.specs.Formats.{besides_on, asked_as, encode_on, waits_on, read_on, fits_on, answer_on, has_answer_on, format_of}
-use Rattle.device_formats.proofs.DiskLaws.{by_test, start_waits as disk_start_waits, start_read as disk_start_read, ask_read as disk_ask_read}
+use Rattle.device_formats.proofs.DiskLaws.{by_test}
+use Rattle.device_formats.proofs.PageDiskLaws.{start_waits as disk_start_waits, start_read as disk_start_read, ask_read as disk_ask_read}
 use Rattle.device_formats.proofs.DoneLaws.{sized_fits}
 use Rattle.device_formats.proofs.NetLaws.{net_keeps, asked_read, step_read as net_step_read, station_fits}
 use Rattle.device_formats.proofs.ServiceLaws.{served_answers, ask_read, start_waits, start_read, reply_fits}
-use Rattle.device_formats.proofs.KindLaws.{service_keeps, service_silent, disk_keeps, disk_silent}
-
--- each kind's requests and replies are among all
-
-service_whole : (ask : Ask) (q : IcAsk) → ic_request ask ≡ Some q → AskIc q ≡ ask
-service_whole (AskIc x) q h = let same : x ≡ q = cc in ap AskIc (sym same)
-service_whole _ q h = cc
-
-disk_whole : (ask : Ask) (q : DiskRequest) → disk_request ask ≡ Some q → AskDisk q ≡ ask
-disk_whole (AskDisk x) q h = let same : x ≡ q = cc in ap AskDisk (sym same)
-disk_whole _ q h = cc
-
-service_replied : (reply : Reply) (r : IcAnswer) → ic_reply reply ≡ Some r → ReplyIc r ≡ reply
-service_replied (ReplyIc x) r h = let same : x ≡ r = cc in ap ReplyIc (sym same)
-service_replied _ r h = cc
-
-disk_replied : (reply : Reply) (r : DiskReply) → disk_reply reply ≡ Some r → ReplyDisk r ≡ reply
-disk_replied (ReplyDisk x) r h = let same : x ≡ r = cc in ap ReplyDisk (sym same)
-disk_replied _ r h = cc
-
-net_whole : (ask : Ask) (q : Rndis) → net_request ask ≡ Some q → AskNet q ≡ ask
-net_whole (AskNet x) q h = let same : x ≡ q = cc in ap AskNet (sym same)
-net_whole _ q h = cc
-
-net_replied : (reply : Reply) (r : NetReply) → net_reply reply ≡ Some r → nets.reply r ≡ reply
-net_replied (ReplyNet status back) r h =
-    let own : NetReply = record { status = status; back = back } in
-    let same : own ≡ r = cc in ap nets.reply (sym same)
-net_replied _ r h = cc
-
-among_services : IsAmong services
-among_services = record { found = λ q. refl; whole = service_replied }
-
-pub among_disks : IsAmong disks
-among_disks = record { found = λ q. refl; whole = disk_replied }
-
-among_nets : IsAmong nets
-among_nets = record { found = λ q. refl; whole = net_replied }
+use Rattle.device_formats.proofs.KindLaws.{service_keeps, service_silent}
+use Rattle.device_formats.proofs.PageFormatLaws.{page_keeps, page_silent}
+use Rattle.device_formats.proofs.AmongLaws.{Replied, replied_so, service_whole, disk_whole, among_services, among_disks, among_nets}
 
 pub keeps : (kind : DeviceKind) → Keeps (format_of kind)
-keeps Beat = lifts (format_by (service_codec Beat)) services among_services (service_keeps Beat)
-keeps Down = lifts (format_by (service_codec Down)) services among_services (service_keeps Down)
-keeps Disk = lifts (format_by disk_codec) disks among_disks disk_keeps
-keeps Net = lifts net_format nets among_nets net_keeps
+keeps Beat = keeps_in_packets (lift (format_by (service_codec Beat)) services) (lifts (format_by (service_codec Beat)) services among_services (service_keeps Beat))
+keeps Down = keeps_in_packets (lift (format_by (service_codec Down)) services) (lifts (format_by (service_codec Down)) services among_services (service_keeps Down))
+keeps Disk = lifts (format_by page_codec) disks among_disks page_keeps
+keeps Net = keeps_in_packets (lift net_format nets) (lifts net_format nets among_nets net_keeps)
 
 -- but for a network's there are no messages
 pub no_messages : (kind : DeviceKind) → besides_on kind ≡ false → HasNoMessages (format_of kind)
-no_messages Beat none = record { gives = λ p r. refl; fixed = (service_silent Beat).fixed }
-no_messages Down none = record { gives = λ p r. refl; fixed = (service_silent Down).fixed }
-no_messages Disk none = record { gives = λ p r. refl; fixed = disk_silent.fixed }
+no_messages Beat none = may_in_packets (lift (format_by (service_codec Beat)) services) false (record { gives = λ p r. refl; fixed = (service_silent Beat).fixed })
+no_messages Down none = may_in_packets (lift (format_by (service_codec Down)) services) false (record { gives = λ p r. refl; fixed = (service_silent Down).fixed })
+no_messages Disk none = record { gives = λ i r. refl; fixed = page_silent.fixed }
 no_messages Net none = cc
 
 pub may_have : (kind : DeviceKind) → MayHaveMessages (format_of kind) (besides_on kind)
@@ -97,26 +66,26 @@ may_have Down = no_messages Down refl
 may_have Disk = no_messages Disk refl
 may_have Net = tt
 
-none_in_back : (o : Option (Back (List ℕ))) → ((b : Back (List ℕ)) → o ≡ Some b → b.message ≡ None) → has_message_in o ≡ false
+none_in_back : (o : Option (Back Item)) → ((b : Back Item) → o ≡ Some b → b.message ≡ None) → has_message_in o ≡ false
 none_in_back None none = refl
 none_in_back (Some b) none = ap is_some (none b refl)
 
-none_for : (own : ℕ) (o : Option (Back (List ℕ))) → ((b : Back (List ℕ)) → o ≡ Some b → b.message ≡ None) → message_in own o ≡ None
+none_for : (own : ℕ) (o : Option (Back Item)) → ((b : Back Item) → o ≡ Some b → b.message ≡ None) → message_in own o ≡ None
 none_for own None none = refl
 none_for own (Some b) none = ap (under_own own) (none b refl)
 
 -- so none goes back
-pub none_fixed : (kind : DeviceKind) (p : List ℕ) → besides_on kind ≡ false → has_message_in ((format_of kind).fixed p) ≡ false
+pub none_fixed : (kind : DeviceKind) (p : Item) → besides_on kind ≡ false → has_message_in ((format_of kind).fixed p) ≡ false
 none_fixed kind p none = none_in_back ((format_of kind).fixed p) ((no_messages kind none).fixed p)
 
-pub none_fixed_in : (kind : DeviceKind) (own : ℕ) (p : List ℕ) → besides_on kind ≡ false → message_in own ((format_of kind).fixed p) ≡ None
+pub none_fixed_in : (kind : DeviceKind) (own : ℕ) (p : Item) → besides_on kind ≡ false → message_in own ((format_of kind).fixed p) ≡ None
 none_fixed_in kind own p none = none_for own ((format_of kind).fixed p) ((no_messages kind none).fixed p)
 
-pub id_is : (kind : DeviceKind) (p : List ℕ) → (format_of kind).id_of p ≡ id_of p
-id_is Beat p = refl
-id_is Down p = refl
-id_is Disk p = refl
-id_is Net p = refl
+pub id_is : (kind : DeviceKind) (i : Item) → (format_of kind).id_of i ≡ id_of i.packet
+id_is Beat i = refl
+id_is Down i = refl
+id_is Disk i = refl
+id_is Net i = refl
 
 -- plans
 
@@ -140,7 +109,7 @@ start_is_fixed Disk (suc s) subs = tt
 start_is_fixed Net (suc s) subs = tt
 
 -- a request of this kind that can be asked is what is read
-asked_so : {Q R : Type 0} (x : Codec (List ℕ) (WantOf Q) Q R) (request : Q → Ask) (Can : Q → Type 0) (id : ℕ) → ((q : Q) → Can q → x.read (x.encode id (Request q)) ≡ Some q) → (ask : Ask) (o : Option Q) → ((q : Q) → o ≡ Some q → request q ≡ ask)
+asked_so : {P Q R : Type 0} (x : Codec P (WantOf Q) Q R) (request : Q → Ask) (Can : Q → Type 0) (id : ℕ) → ((q : Q) → Can q → x.read (x.encode id (Request q)) ≡ Some q) → (ask : Ask) (o : Option Q) → ((q : Q) → o ≡ Some q → request q ≡ ask)
     → CanBe Can o → mapped request (x.read (x.encode id (or_else (Step 0) (mapped Request o)))) ≡ Some ask
 asked_so x request Can id asked ask None whole can = absurd can
 asked_so x request Can id asked ask (Some q) whole can = ap (mapped request) (asked q can) ∙ ap Some (whole q refl)
@@ -173,7 +142,7 @@ net_asked id (AskNet m) can = ap (mapped AskNet) (asked_read id m can)
 pub asked_is : (kind : DeviceKind) (id : ℕ) (ask : Ask) → IsAskable kind ask → read_on kind (encode_on kind id (Script ask)) ≡ Some (asked_as id ask)
 asked_is Beat id ask can = asked_so (service_codec Beat) AskIc IsBeatAsk id (beat_read id) ask (ic_request ask) (service_whole ask) can ∙ ap Some (service_same IsBeatAsk id ask can)
 asked_is Down id ask can = asked_so (service_codec Down) AskIc IsDownAsk id (down_read id) ask (ic_request ask) (service_whole ask) can ∙ ap Some (service_same IsDownAsk id ask can)
-asked_is Disk id ask can = asked_so disk_codec AskDisk IsDiskAsk id (disk_ask_read id) ask (disk_request ask) (disk_whole ask) can ∙ ap Some (disk_same IsDiskAsk id ask can)
+asked_is Disk id ask can = asked_so page_codec AskDisk IsPageAsk id (disk_ask_read id) ask (disk_request ask) (disk_whole ask) can ∙ ap Some (disk_same IsPageAsk id ask can)
 asked_is Net id ask can = net_asked id ask can
 
 -- the script asks the device
@@ -182,7 +151,7 @@ script_asks kind [] all = tt
 script_asks kind (ask ∷ asks) all = (λ id. (asked_as id ask, asked_is kind id ask all.0), script_asks kind asks all.1)
 
 -- what asks the device has an answer
-pub read_waits : (kind : DeviceKind) (p : List ℕ) (q : Ask) → read_on kind p ≡ Some q → waits_on kind p ≡ true
+pub read_waits : (kind : DeviceKind) (p : Item) (q : Ask) → read_on kind p ≡ Some q → waits_on kind p ≡ true
 read_waits kind p q h =
     by_test (waits_on kind p) (λ is. is) (λ not. let none : read_on kind p ≡ None = (keeps kind).unread p not in cc)
 
@@ -210,25 +179,6 @@ disk_reply_fits q r sized = sized_fits q r sized
 pub net_reply_fits : (q : Rndis) (r : NetReply) → StationKeeps (Ok q) r → fits_on Net (AskNet q) (ReplyNet r.status r.back) ≡ true
 net_reply_fits q r keeps = station_fits q r keeps
 
--- a fitting reply is one of the device's kind
-pub record Replied {Q R : Type 0} (read : Option Q) (fits : Q → R → Bool) (reply : Option R) : Type 0 where
-  pub asked : Q
-  pub replied : R
-  pub reads : read ≡ Some asked
-  pub is : reply ≡ Some replied
-  pub holds : fits asked replied ≡ true
-
-pub replied_so : {Q R : Type 0} (fits : Q → R → Bool) (request : Q → Ask) (own : Ask → Option Q) → ((q : Q) → own (request q) ≡ Some q) → (read : Option Q) (ask : Ask) (q : Option Q) (reply : Option R) → own ask ≡ q
-    → mapped request read ≡ Some ask → both_hold fits q reply ≡ true → Replied read fits reply
-replied_so fits request own found None ask q reply is h holds = cc
-replied_so fits request own found (Some x) ask None reply is h holds = cc
-replied_so fits request own found (Some x) ask (Some y) None is h holds = cc
-replied_so fits request own found (Some x) ask (Some y) (Some r) is h holds =
-    let asked : request x ≡ ask = cc in
-    let same_some : Some x ≡ Some y = sym (found x) ∙ (ap own asked ∙ is) in
-    let same : x ≡ y = cc in
-    record { asked = y; replied = r; reads = ap Some same; is = refl; holds = holds }
-
 pub service_replies : (kind : DeviceKind) (p : List ℕ) (q : Ask) (r : Reply) → mapped AskIc (service_read kind p) ≡ Some q → both_hold (service_fits kind) (ic_request q) (ic_reply r) ≡ true → Replied (service_read kind p) (service_fits kind) (ic_reply r)
 service_replies kind p q r h fits = replied_so (service_fits kind) AskIc ic_request (λ x. refl) (service_read kind p) q (ic_request q) (ic_reply r) refl h fits
 
@@ -237,9 +187,9 @@ answers_so : (kind : DeviceKind) (p : List ℕ) (r : Reply) → Replied (service
 answers_so kind p r own = served_answers kind p own.asked own.replied own.reads own.holds ∙ ap (λ o. service_answer p (or_else services.other o)) (sym own.is)
 
 -- what asks a service is in-band, and its own answer is the answer with its reply
-abbrev AnswersOn : DeviceKind → List ℕ → Ask → Reply → Type 0
-AnswersOn kind p q r = read_on kind p ≡ Some q → fits_on kind q r ≡ true → (is_inband p ≡ true) × (service_fixed kind p ≡ answer_on kind p r)
+abbrev AnswersOn : DeviceKind → Item → Ask → Reply → Type 0
+AnswersOn kind i q r = read_on kind i ≡ Some q → fits_on kind q r ≡ true → (is_inband i.packet ≡ true) × (bare_item (service_fixed kind i.packet) ≡ answer_on kind i r)
 
-pub service_answers : (kind : DeviceKind) → (kind ≡ Beat) ⊎ (kind ≡ Down) → (p : List ℕ) (q : Ask) (r : Reply) → AnswersOn kind p q r
-service_answers kind (inl is) p q r = subst (λ k. AnswersOn k p q r) (sym is) (λ h fits. (read_waits Beat p q h, answers_so Beat p r (service_replies Beat p q r h fits)))
-service_answers kind (inr is) p q r = subst (λ k. AnswersOn k p q r) (sym is) (λ h fits. (read_waits Down p q h, answers_so Down p r (service_replies Down p q r h fits)))
+pub service_answers : (kind : DeviceKind) → (kind ≡ Beat) ⊎ (kind ≡ Down) → (i : Item) (q : Ask) (r : Reply) → AnswersOn kind i q r
+service_answers kind (inl is) i q r = subst (λ k. AnswersOn k i q r) (sym is) (λ h fits. (read_waits Beat i q h, ap bare_item (answers_so Beat i.packet r (service_replies Beat i.packet q r h fits))))
+service_answers kind (inr is) i q r = subst (λ k. AnswersOn k i q r) (sym is) (λ h fits. (read_waits Down i q h, ap bare_item (answers_so Down i.packet r (service_replies Down i.packet q r h fits))))

@@ -1,23 +1,16 @@
--- The channel of a service and that of a disk keep to the laws of a wire format, each in its own asks and replies.
-use Rattle.std.proofs.Common.{◌≡◌, ℕ, true, false, List, [], ◌++◌, Some, None, refl}
+-- The channel of a service keeps to the laws of a wire format, in its own asks and replies.
+use Rattle.std.proofs.Common.{◌≡◌, ℕ, true, false, List, Some, None, refl}
 use Rattle.contact.specs.declared.kind.DeviceKind.{DeviceKind}
 use Rattle.util_ic.specs.declared.ic.IcAsk.{IcAsk}
 use Rattle.util_ic.specs.declared.ic.IcAnswer.{IcAnswer}
 use Rattle.util_ic.specs.Messages.{ask_bytes, negotiate_bytes}
-use Rattle.scsi_disk.specs.declared.request.DiskRequest.{DiskRequest}
-use Rattle.scsi_disk.specs.declared.reply.DiskReply.{DiskReply}
-use Rattle.stor_proto.specs.Packets.{vstor_bytes}
-use Rattle.stor_proto.specs.Srbs.{ask_of}
 use Rattle.pkt_desc.specs.Packets.{id_of}
 use Rattle.channel_model.specs.Amounts.{HasNoMessages}
 use Rattle.channel_model.specs.WireFormat.{Keeps}
 use Rattle.device_formats.specs.Codecs.{WantOf, Step, Request, format_by}
 use Rattle.device_formats.specs.Packets.{is_inband}
 use Rattle.device_formats.specs.Services.{service_read, service_fixed, service_answer, service_result, service_fits, service_encode, service_codec}
-use Rattle.device_formats.specs.Disks.{sent_packet, done_packet, disk_waits, disk_read, disk_fixed, disk_answer, disk_start, disk_ask, disk_encode, disk_codec, start_vstor}
 use Rattle.device_formats.proofs.CodecLaws.{Sound, codec_keeps, codec_silent}
-use Rattle.device_formats.proofs.DiskLaws.{waits_any, read_any}
-use Rattle.device_formats.proofs.DoneLaws.{reply_read as disk_reply_read}
 use Rattle.device_formats.proofs.ServiceLaws.{inband_any, service_any, reply_read}
 
 module _ (kind : DeviceKind) where
@@ -68,49 +61,3 @@ module _ (kind : DeviceKind) where
 
   pub service_silent : HasNoMessages (format_by (service_codec kind))
   service_silent = codec_silent (service_codec kind) service_sound
-
-id_disk : (id : ℕ) (a : WantOf DiskRequest) → id_of (disk_encode id a) ≡ id
-unfolding disk_start disk_ask sent_packet
-id_disk id (Step k) = refl
-id_disk id (Request q) = refl
-
-id_disk_fixed : (p : List ℕ) → id_of (disk_fixed p) ≡ id_of p
-unfolding disk_fixed done_packet
-id_disk_fixed p = refl
-
-id_disk_answer : (p : List ℕ) (r : DiskReply) → id_of (disk_answer p r) ≡ id_of p
-unfolding disk_answer done_packet
-id_disk_answer p r = refl
-
-waits_alike : (id : ℕ) (a : WantOf DiskRequest) → disk_waits (disk_encode id a) ≡ disk_waits (disk_encode 0 a)
-unfolding disk_start disk_ask sent_packet
-waits_alike id (Step k) = waits_any id 1 (vstor_bytes (start_vstor k) ++ [])
-waits_alike id (Request q) = waits_any id 1 (vstor_bytes (ask_of q) ++ q.out)
-
-read_alike : (id : ℕ) (a : WantOf DiskRequest) → disk_read (disk_encode id a) ≡ disk_read (disk_encode 0 a)
-unfolding disk_start disk_ask sent_packet
-read_alike id (Step k) = read_any id 1 (vstor_bytes (start_vstor k) ++ [])
-read_alike id (Request q) = read_any id 1 (vstor_bytes (ask_of q) ++ q.out)
-
-disk_unread : (p : List ℕ) → disk_waits p ≡ false → disk_read p ≡ None
-unfolding disk_read
-disk_unread p not = rw not refl
-
-disk_sound : Sound disk_codec
-disk_sound = record {
-  id_encoded = id_disk;
-  id_fixed = id_disk_fixed;
-  id_answer = id_disk_answer;
-  waits_alike = waits_alike;
-  read_alike = read_alike;
-  unread = disk_unread;
-  closes = λ p r. refl;
-  closes_fixed = λ p. refl;
-  reads = λ id a q r h fits. disk_reply_read (disk_encode id a) q r h fits;
-}
-
-pub disk_keeps : Keeps (format_by disk_codec)
-disk_keeps = codec_keeps disk_codec disk_sound
-
-pub disk_silent : HasNoMessages (format_by disk_codec)
-disk_silent = codec_silent disk_codec disk_sound

@@ -6,12 +6,12 @@ pub mod DoneLaws
 pub mod ServiceLaws
 pub mod CodecLaws
 pub mod KindLaws
-pub mod FormatLaws
-pub mod ChannelScriptLaws
 pub mod NetLaws
-pub mod ItemFormatLaws
 pub mod SpanLaws
 pub mod PageDiskLaws
 pub mod PageDoneLaws
 pub mod SaidLaws
+pub mod AmongLaws
 pub mod PageFormatLaws
+pub mod FormatLaws
+pub mod ChannelScriptLaws

@@ -245,14 +245,27 @@ own_data (Some SynchronizeCache) out own bytes = of_none (asked_data (Some Synch
 own_data (Some (LongCapacity b a)) out own bytes = of_none (asked_data (Some (LongCapacity b a)) out) out own
 
 -- there is room for all that may come
-room_for : (q : DiskRequest) → IsPageAsk q → most_back (command_of q.cdb) ≤ length (data_asked q)
+pub back_most : (k : Option Command) (n : ℕ) → most_back k ≤ bytes_moved k n
+back_most None n = omega arith
+back_most (Some TestUnitReady) n = omega arith
+back_most (Some (Inquiry s a)) n = omega arith
+back_most (Some ReadCapacity) n = omega arith
+back_most (Some (ReadBlocks l k)) n = omega arith
+back_most (Some (Write l k)) n = omega arith
+back_most (Some SynchronizeCache) n = omega arith
+back_most (Some (LongCapacity b a)) n = omega arith
+
+all_room : (q : DiskRequest) → most_back (command_of q.cdb) ≤ bytes_of_ask q
+all_room q = back_most (command_of q.cdb) (length q.out)
+
+room_for : (q : DiskRequest) → most_back (command_of q.cdb) ≤ length (data_asked q)
 unfolding data_asked
-room_for q can = by_test (bytes_of_ask q == 0)
-    (λ none. rw none (grind (arith, nat_tests, none, can.whole)))
+room_for q = by_test (bytes_of_ask q == 0)
+    (λ none. rw none (grind (arith, nat_tests, none, all_room q)))
     (λ some.
     let len = length-bytes_in (words_asked q) in
     let long = asked_long q (λ e. grind (arith, nat_tests, some, e)) in
-    rw some (omega (arith, len, long, can.whole)))
+    rw some (omega (arith, len, long, all_room q)))
 
 pub fits_can : (q : DiskRequest) → IsPageAsk q → fits_page q ≡ true
 unfolding fits_page
@@ -269,8 +282,8 @@ unfolding srb_asked data_asked asked_data
 asked_is q can =
     let own = own_data (command_of q.cdb) q.out can.own (from_all q.out can.out_bytes) in
     let came = data_asked q in
-    let room = room_for q can in
-    let fits : nat_le (most_back (command_of q.cdb)) (min (length came) 4096) ≡ true = grind (arith, nat_tests, room, can.whole, can.few) in
+    let room = room_for q in
+    let fits : nat_le (most_back (command_of q.cdb)) (min (length came) 4096) ≡ true = grind (arith, nat_tests, room, all_room q, can.few) in
     ap (with_room (length came)) (ap (request_of (ask_of q)) own.1 ∙ ask_read_more q own.0 can.len (omega (arith, can.few)) can.own)
     ∙ ap (λ b. cond b (Some q) None) fits
 

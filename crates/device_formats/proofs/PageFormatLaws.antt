@@ -3,6 +3,7 @@ use Rattle.std.proofs.Common.{◌≡◌, ◌≢◌, ℕ, zero, suc, ◌+◌, ◌
 use Rattle.std.specs.Prelude.{is_none, nat_le}
 use Rattle.std.proofs.lemmas.Bool.Decides.{nat_tests}
 use Rattle.std.proofs.lemmas.List.{length-replicate, length-take, take_all}
+use Rattle.wire_table.specs.Little.{number_of, bytes_of}
 use Rattle.vm_page.specs.Words.{words_for, bytes_in, words_of}
 use Rattle.vm_page.proofs.WordLaws.{length-words_from, length-bytes_in}
 use Rattle.pkt_desc.specs.Packets.{id_of, kind_of}
@@ -14,15 +15,15 @@ use Rattle.contact.specs.declared.kind.DeviceKind.{DeviceKind}
 use Rattle.contact.specs.declared.kind.DeviceKind.TheVariants.{Beat, Down, Disk, Net}
 use Rattle.scsi_disk.specs.declared.request.DiskRequest.{DiskRequest}
 use Rattle.scsi_disk.specs.declared.reply.DiskReply.{DiskReply}
+use Rattle.stor_proto.specs.Fields.{with_number}
 use Rattle.stor_proto.specs.Opening.{answer_of}
 use Rattle.stor_proto.specs.Srbs.{ask_of, data_in, bytes_moved, request_of, stop_of}
 use Rattle.script_lines.specs.declared.line.Ask.{Ask}
 use Rattle.script_lines.specs.declared.line.Ask.TheVariants.{Disk as AskDisk}
 use Rattle.bus_script.specs.declared.outcome.Reply.{Reply}
 use Rattle.channel_model.specs.WireFormat.{Keeps, Back}
-use Rattle.channel_model.specs.Amounts.{HasNoMessages, MayHaveMessages}
+use Rattle.channel_model.specs.Amounts.{HasNoMessages}
 use Rattle.channel_model.specs.Lift.{mapped, or_else, both_hold}
-use Rattle.channel_model.proofs.Lifting.{lifts}
 use Rattle.channel_protocol.specs.Paged.{KeepsPages, LendsOwnPage, words_lent, lent_len, Lays}
 use Rattle.scsi_disk.specs.DiskModel.{most_back}
 use Rattle.scsi_disk.specs.Commands.{command_of}
@@ -30,23 +31,20 @@ use Rattle.scsi_disk.specs.declared.command.Command.{Command}
 use Rattle.scsi_disk.specs.declared.command.Command.TheVariants.{TestUnitReady, Inquiry, ReadCapacity, Read as ReadBlocks, Write, SynchronizeCache, LongCapacity}
 use Rattle.stor_proto.specs.declared.vstor.Vstor.{Vstor}
 use Rattle.device_formats.specs.declared.want.Want.{Want}
-use Rattle.device_formats.specs.declared.want.Want.TheVariants.{Starts, Script}
 use Rattle.device_formats.specs.Codecs.{WantOf, Step, Request, alone, format_by}
 use Rattle.device_formats.specs.Disks.{sent_packet, done_packet, back_of, disk_fits, start_vstor, disk_start, vstor_of, stopped_by}
-use Rattle.device_formats.specs.Formats.{besides_on}
-use Rattle.device_formats.specs.Items.{reads_into, came_in, said_item}
+use Rattle.device_formats.specs.Formats.{lends_on, format_of}
+use Rattle.device_formats.specs.Items.{came_with, reads_into, came_in, said_item}
 use Rattle.device_formats.specs.Kinds.{disk_request, disk_reply, disks}
-use Rattle.device_formats.specs.PageDisks.{page_waits, page_read, page_fixed, page_answer, bytes_of_ask, words_asked, direct_packet, page_ask, fits_page, IsPageAsk, page_encode, page_codec, lacks_page, with_room, srb_asked, page_fixed_vstor}
-use Rattle.device_formats.specs.PageFormats.{page_format, lends_on}
+use Rattle.device_formats.specs.PageDisks.{page_waits, page_read, page_fixed, page_answer, bytes_of_ask, words_asked, direct_packet, page_ask, fits_page, IsPageAsk, page_encode, page_codec, lacks_page, with_room, srb_asked, refused_vstor, silent_answer, page_fixed_vstor}
 use Rattle.device_formats.proofs.CodecLaws.{Sound, codec_keeps, codec_silent}
-use Rattle.device_formats.proofs.DiskLaws.{by_test, start_is_formed}
+use Rattle.device_formats.proofs.DiskLaws.{by_test, start_is_formed, start_allowed}
 use Rattle.device_formats.proofs.DoneLaws.{back_fits}
-use Rattle.device_formats.proofs.FormatLaws.{Replied, replied_so, among_disks}
-use Rattle.device_formats.proofs.ItemFormatLaws.{keeps_items, may_items}
+use Rattle.device_formats.proofs.AmongLaws.{Replied, replied_so}
 use Rattle.device_formats.proofs.SpanLaws.{direct_lends_any, sent_lends}
-use Rattle.device_formats.proofs.PageDiskLaws.{sent_kind, Fits, fits_from, ask_formed, ask_none, ask_some, start_read, waits_always, read_alike, ask_read, fits_can, asked_long}
+use Rattle.device_formats.proofs.PageDiskLaws.{sent_kind, sent_holds, start_waits, start_read, Fits, fits_from, ask_formed, ask_none, ask_some, waits_always, read_alike, fits_can, asked_long}
 use Rattle.device_formats.proofs.PageDoneLaws.{page_asks, done_kind, reply_read}
-use Rattle.device_formats.proofs.SaidLaws.{waits_kind, said_bare, said_answer, said_fixed, said_ask}
+use Rattle.device_formats.proofs.SaidLaws.{waits_kind, none_came, said_bare, said_answer, said_fixed, said_ask}
 
 -- the laws of a wire format
 
@@ -107,18 +105,6 @@ page_keeps = codec_keeps page_codec page_sound
 
 pub page_silent : HasNoMessages (format_by page_codec)
 page_silent = codec_silent page_codec page_sound
-
-pub keeps_pages : (kind : DeviceKind) → Keeps (page_format kind)
-keeps_pages Beat = keeps_items Beat
-keeps_pages Down = keeps_items Down
-keeps_pages Disk = lifts (format_by page_codec) disks among_disks page_keeps
-keeps_pages Net = keeps_items Net
-
-pub may_pages : (kind : DeviceKind) → MayHaveMessages (page_format kind) (besides_on kind)
-may_pages Beat = may_items Beat
-may_pages Down = may_items Down
-may_pages Disk = record { gives = λ i r. refl; fixed = page_silent.fixed }
-may_pages Net = may_items Net
 
 -- what pages ask
 
@@ -190,7 +176,7 @@ fixed_if : (b : Bool) (i : Item) (back : Back Item) → cond b (Some (alone (pag
 fixed_if true i back is = let same : alone (page_fixed i) ≡ back = cc in ap (λ (b : Back Item). b.answer.words) (sym same) ∙ fixed_words i
 fixed_if false i back is = cc
 
-pub disk_pages : KeepsPages (page_format Disk)
+pub disk_pages : KeepsPages (format_of Disk)
 disk_pages = record {
   ids = λ i. refl;
   answers = λ i. refl;
@@ -210,7 +196,7 @@ disk_pages = record {
     true_not_false : true ≡ false → ⊥
     true_not_false e = cc
 
-pub pages_kept : (kind : DeviceKind) → lends_on kind ≡ true → KeepsPages (page_format kind)
+pub pages_kept : (kind : DeviceKind) → lends_on kind ≡ true → KeepsPages (format_of kind)
 pages_kept Beat lends = cc
 pages_kept Down lends = cc
 pages_kept Disk lends = disk_pages
@@ -234,14 +220,6 @@ said_within false false n ws = omega arith
 
 pub said_few : (i : Item) → length (said_item i).words ≤ length i.words
 said_few i = said_within (kind_of i.packet == 11) ((kind_of i.packet == 9) && reads_into i.packet) (words_for (came_in i.packet)) i.words
-
--- a start-up asks nothing of the disk
-pub start_fixed : (id k : ℕ) → (page_format Disk).read ((page_format Disk).encode id (Starts k)) ≡ None
-start_fixed id k = ap (mapped AskDisk) (start_read id k)
-
--- a request asks it what the script asks
-pub script_read : (id : ℕ) (q : DiskRequest) → IsPageAsk q → (page_format Disk).read ((page_format Disk).encode id (Script (AskDisk q))) ≡ Some (AskDisk q)
-script_read id q can = ap (mapped AskDisk) (ask_read id q can)
 
 -- what is stopped
 
@@ -297,8 +275,24 @@ said_encoded id (Request q) = by_test (fits_page q)
     (λ fits. subst (λ (x : Item). said_item x ≡ x) (sym (ap (λ b. cond b (page_ask id q) (item_of (disk_start id 0) [])) fits)) (said_request id q fits))
     (λ not. subst (λ (x : Item). said_item x ≡ x) (sym (ap (λ b. cond b (page_ask id q) (item_of (disk_start id 0) [])) not)) (said_bare (disk_start id 0)))
 
-pub said_asked : (id : ℕ) (a : Want) → said_item ((page_format Disk).encode id a) ≡ (page_format Disk).encode id a
+pub said_asked : (id : ℕ) (a : Want) → said_item ((format_of Disk).encode id a) ≡ (format_of Disk).encode id a
 said_asked id a = said_encoded id (disks.ask a)
+
+-- a request that gives bytes, whatever stood in its page before
+
+ask_long : (id : ℕ) (q : DiskRequest) → length (page_ask id q).words ≡ words_for (bytes_of_ask q)
+ask_long id q = by_test (bytes_of_ask q == 0)
+    (λ none. let zero_long : 0 ≡ words_for (bytes_of_ask q) = grind (arith, nat_tests, none) in ap (λ (x : Item). length x.words) (ask_none id q none) ∙ zero_long)
+    (λ some. ap (λ (x : Item). length x.words) (ask_some id q some) ∙ asked_long q (λ e. grind (arith, nat_tests, some, e)))
+
+pub said_reads : (id : ℕ) (q : DiskRequest) (j : Item) → data_in (command_of q.cdb) ≡ 1 → j.packet ≡ (page_encode id (Request q)).packet → length j.words ≡ length (page_encode id (Request q)).words → said_item j ≡ page_encode id (Request q)
+said_reads id q j gives is long = by_test (fits_page q)
+    (λ fits.
+    let here = ap (λ b. cond b (page_ask id q) (item_of (disk_start id 0) [])) fits in
+    said_ask id q j (fits_from q fits) (is ∙ ap (λ (x : Item). x.packet) here) (long ∙ (ap (λ (x : Item). length x.words) here ∙ ask_long id q)) (λ some takes. let never : ⊥ = grind (arith, nat_tests, gives, takes) in absurd never) ∙ sym here)
+    (λ not.
+    let here = ap (λ b. cond b (page_ask id q) (item_of (disk_start id 0) [])) not in
+    said_start id 0 j (is ∙ ap (λ (x : Item). x.packet) here) (long ∙ ap (λ (x : Item). length x.words) here) ∙ sym here)
 
 answer_words : (i : Item) (r : DiskReply) → (page_answer i r).words ≡ words_of (back_of r)
 unfolding page_answer
@@ -307,7 +301,7 @@ answer_words i r = refl
 pub said_answered : (i : Item) (q : DiskRequest) (r : DiskReply) (j : Item) → page_read i ≡ Some q → disk_fits q r ≡ true → j.packet ≡ (page_answer i r).packet → take (length (page_answer i r).words) j.words ≡ (page_answer i r).words → said_item j ≡ page_answer i r
 said_answered i q r j h fits is front = said_answer i q r j h fits is (subst (λ ws. take (length ws) j.words ≡ ws) (answer_words i r) front)
 
-pub said_fixed_so : (i j : Item) → page_waits i ≡ true → j.packet ≡ (page_fixed i).packet → length j.words ≤ length i.words → said_item j ≡ page_fixed i
+pub said_fixed_so : (i j : Item) → page_waits i ≡ true → j.packet ≡ (page_fixed i).packet → said_item j ≡ page_fixed i
 said_fixed_so = said_fixed
 
 -- how requests are laid: a write with all of its data, and anything else with room for what may come
@@ -345,13 +339,67 @@ sent_words id q p can is = ap words_lent is ∙ ap lent_len (sent_lends id (ask_
 pub start_words : (id k : ℕ) → words_lent (disk_start id k) ≡ 0
 start_words id k = ap lent_len (start_lends id k)
 
--- a request of the start-up without page words is answered as it is
-start_so : (v : Vstor) (lacks : Bool) (ws : List ℕ) → ws ≡ [] → v.operation ≢ 3 → page_fixed_vstor v lacks (bytes_in ws) ≡ answer_of v
-unfolding page_fixed_vstor
-start_so v lacks ws none other =
-    let test : (v.operation == 3) ≡ false = grind (arith, nat_tests, other) in
-    rw (test, none) refl
+-- a request of the start-up is answered as it is, or refused where its answer would be that of an srb that gave bytes
 
-pub start_answered_so : (i : Item) → i.words ≡ [] → (vstor_of i.packet).operation ≢ 3 → page_fixed i ≡ item_of (done_packet (id_of i.packet) (answer_of (vstor_of i.packet)) []) []
+start_unasked : (v : Vstor) (lacks : Bool) (came : List ℕ) → v.operation ≢ 3 → srb_asked v lacks came ≡ None
+unfolding srb_asked
+start_unasked v lacks came other =
+    let test : (v.operation == 3) ≡ false = grind (arith, nat_tests, other) in
+    ap (λ b. cond b (cond lacks None (with_room (length came) (request_of v came))) None) test
+
+none_if : (b : Bool) (o : Option DiskRequest) → o ≡ None → cond b o None ≡ None
+none_if true o is = is
+none_if false o is = refl
+
+start_nothing : (i : Item) → (vstor_of i.packet).operation ≢ 3 → page_read i ≡ None
+unfolding page_read
+start_nothing i other = none_if (page_waits i) (srb_asked (vstor_of i.packet) (lacks_page i) (bytes_in i.words)) (start_unasked (vstor_of i.packet) (lacks_page i) (bytes_in i.words) other)
+
+start_by : (v : Vstor) (lacks : Bool) (came : List ℕ) (silent : Bool) → v.operation ≢ 3 → (came_with (answer_of v) == 0) ≡ silent → page_fixed_vstor v lacks came ≡ cond silent (answer_of v) refused_vstor
+unfolding page_fixed_vstor
+start_by v lacks came silent other is =
+    let test : (v.operation == 3) ≡ false = grind (arith, nat_tests, other) in
+    ap (λ b. cond b (stop_of v (cond lacks 4 (stopped_by (request_of v came)))) (silent_answer (answer_of v))) test ∙ ap (λ b. cond b (answer_of v) refused_vstor) is
+
+start_item : (i : Item) (silent : Bool) → (vstor_of i.packet).operation ≢ 3 → (came_with (answer_of (vstor_of i.packet)) == 0) ≡ silent → page_fixed i ≡ item_of (done_packet (id_of i.packet) (cond silent (answer_of (vstor_of i.packet)) refused_vstor) []) []
 unfolding page_fixed
-start_answered_so i none other = ap (λ w. item_of (done_packet (id_of i.packet) w []) []) (start_so (vstor_of i.packet) (lacks_page i) i.words none other)
+start_item i silent other is = ap (λ w. item_of (done_packet (id_of i.packet) w []) []) (start_by (vstor_of i.packet) (lacks_page i) (bytes_in i.words) silent other is)
+
+pub start_exact : (i : Item) → (vstor_of i.packet).operation ≢ 3 → came_with (answer_of (vstor_of i.packet)) ≡ 0 → (page_read i ≡ None) × (page_fixed i ≡ item_of (done_packet (id_of i.packet) (answer_of (vstor_of i.packet)) []) [])
+start_exact i other none = (start_nothing i other, start_item i true other (grind (arith, nat_tests, none)))
+
+pub start_refused : (i : Item) → (vstor_of i.packet).operation ≢ 3 → came_with (answer_of (vstor_of i.packet)) ≢ 0 → (page_read i ≡ None) × (page_fixed i ≡ item_of (done_packet (id_of i.packet) refused_vstor []) [])
+start_refused i other some = (start_nothing i other, start_item i false other (grind (arith, nat_tests, some)))
+
+-- the own requests give nothing back
+own_silent : (k : ℕ) → came_with (answer_of (start_vstor k)) ≡ 0
+unfolding number_of with_number bytes_of
+own_silent zero = none_came (answer_of (start_vstor 0)) 0 refl refl
+own_silent (suc zero) = none_came (answer_of (start_vstor 1)) 0 refl refl
+own_silent (suc (suc zero)) = none_came (answer_of (start_vstor 2)) 0 refl refl
+own_silent (suc (suc (suc zero))) = none_came (answer_of (start_vstor 3)) 0 refl refl
+own_silent (suc (suc (suc (suc n)))) = none_came (answer_of (start_vstor (suc (suc (suc (suc n)))))) 0 refl refl
+
+own_other : (k : ℕ) → (start_vstor k).operation ≢ 3
+own_other zero e = absurd (omega (arith, e))
+own_other (suc zero) e = absurd (omega (arith, e))
+own_other (suc (suc zero)) e = absurd (omega (arith, e))
+own_other (suc (suc (suc zero))) e = absurd (omega (arith, e))
+own_other (suc (suc (suc (suc n)))) e = absurd (omega (arith, e))
+
+start_holds : (id k : ℕ) → vstor_of (disk_start id k) ≡ start_vstor k
+unfolding disk_start
+start_holds id k = (sent_holds id (start_vstor k) (start_is_formed k) (start_allowed k)).vstor
+
+own_answer : (i : Item) (id k : ℕ) → id_of i.packet ≡ id → vstor_of i.packet ≡ start_vstor k → page_fixed i ≡ item_of (done_packet id (answer_of (start_vstor k)) []) []
+own_answer i id k same is =
+    let other = subst (λ (v : Vstor). v.operation ≢ 3) (sym is) (own_other k) in
+    let none = subst (λ (v : Vstor). came_with (answer_of v) ≡ 0) (sym is) (own_silent k) in
+    (start_exact i other none).1 ∙ (ap (λ n. item_of (done_packet n (answer_of (vstor_of i.packet)) []) []) same ∙ ap (λ v. item_of (done_packet id (answer_of v) []) []) is)
+
+pub start_own : (id k : ℕ) → (format_of Disk).fixed (page_encode id (Step k)) ≡ Some (alone (item_of (done_packet id (answer_of (start_vstor k)) []) []))
+start_own id k =
+    let i = item_of (disk_start id k) [] in
+    ap (λ b. cond (b && is_none (page_read i)) (Some (alone (page_fixed i))) None) (start_waits id k)
+    ∙ (ap (λ o. cond (is_none o) (Some (alone (page_fixed i))) None) (start_read id k)
+    ∙ ap (λ j. Some (alone j)) (own_answer i id k (id_start id k) (start_holds id k)))

@@ -28,7 +28,7 @@ use Rattle.stor_proto.specs.declared.vstor.Vstor.{Vstor}
 use Rattle.stor_proto.proofs.FieldLaws.{number_at-same, number_at-other, number_at-before, part_again}
 use Rattle.device_formats.specs.Disks.{vstor_of, has_vstor, sent_packet, done_packet, stopped_by, back_of, disk_fits}
 use Rattle.device_formats.specs.Items.{gives_bytes, came_with, reads_into, came_in, words_said, said_item}
-use Rattle.device_formats.specs.PageDisks.{page_waits, is_empty, lacks_page, with_room, srb_asked, page_read, refused_vstor, silent_answer, start_answer, page_fixed_vstor, page_fixed, page_answer, bytes_of_ask, words_asked, direct_packet, page_ask}
+use Rattle.device_formats.specs.PageDisks.{page_waits, is_empty, lacks_page, with_room, srb_asked, page_read, refused_vstor, silent_answer, page_fixed_vstor, page_fixed, page_answer, bytes_of_ask, words_asked, direct_packet, page_ask}
 use Rattle.device_formats.proofs.ByteLaws.{zero_bytes, with_number_bytes}
 use Rattle.wire_table.proofs.RowLaws.{IsBytes}
 use Rattle.device_formats.proofs.PacketLaws.{right}
@@ -137,7 +137,7 @@ all_came (Some (Write l k)) n le = omega (arith, le)
 all_came (Some SynchronizeCache) n le = omega (arith, le)
 all_came (Some (LongCapacity b a)) n le = refl
 
-none_came : (v : Vstor) (s : ℕ) → number_at 2 1 v.rest ≡ s → (s == 1) ≡ false → came_with v ≡ 0
+pub none_came : (v : Vstor) (s : ℕ) → number_at 2 1 v.rest ≡ s → (s == 1) ≡ false → came_with v ≡ 0
 unfolding came_with
 none_came v s is other =
     let test : (number_at 2 1 v.rest == 1) ≡ false = ap (λ n. n == 1) is ∙ other in
@@ -272,37 +272,30 @@ silent_other v f =
     (λ none. subst IsSilent (sym (ap (λ b. cond b w refused_vstor) none)) (record { form = answer_is_formed v f; allowed = (refl, λ other. absurd (other refl)); none = grind (arith, nat_tests, none) }))
     (λ some. subst IsSilent (sym (ap (λ b. cond b w refused_vstor) some)) silent_refused)
 
-pub silent_fixed : (v : Vstor) (lacks : Bool) (came : List ℕ) → Formed v → (length came == 0) ≡ false → IsSilent (page_fixed_vstor v lacks came)
+pub silent_fixed : (v : Vstor) (lacks : Bool) (came : List ℕ) → Formed v → IsSilent (page_fixed_vstor v lacks came)
 unfolding page_fixed_vstor
-silent_fixed v lacks came f some =
+silent_fixed v lacks came f =
     let stop = stop_of v (cond lacks 4 (stopped_by (request_of v came))) in
-    let other = start_answer (length came) (answer_of v) in
+    let other = silent_answer (answer_of v) in
     by_test (v.operation == 3)
     (λ srb. subst IsSilent (sym (ap (λ b. cond b stop other) srb))
     (silent_stop v (cond lacks 4 (stopped_by (request_of v came))) f (stop_is lacks (not (names_disk v)) (nat_lt 16 (number_at 8 1 v.rest)) (record { cdb = cdb_in v; out = data_for (command_of (cdb_in v)) (number_at 12 4 v.rest) came }))))
-    (λ no. subst IsSilent (sym (ap (λ b. cond b stop other) no ∙ ap (λ b. cond b (answer_of v) (silent_answer (answer_of v))) some)) (silent_other v f))
+    (λ no. subst IsSilent (sym (ap (λ b. cond b stop other) no)) (silent_other v f))
+
+-- a fixed answer is read without page words, whatever comes back with it
+pub said_fixed : (i j : Item) → page_waits i ≡ true → j.packet ≡ (page_fixed i).packet → said_item j ≡ page_fixed i
+unfolding page_fixed
+said_fixed i j waits is =
+    let w = page_fixed_vstor (vstor_of i.packet) (lacks_page i) (bytes_in i.words) in
+    let p = done_packet (id_of i.packet) w [] in
+    let silent = silent_fixed (vstor_of i.packet) (lacks_page i) (bytes_in i.words) (waits_formed i waits) in
+    let done = done_completes (id_of i.packet) w silent.form silent.allowed in
+    let none : words_for (came_in p) ≡ 0 = ap words_for (came_is p w done ∙ silent.none) in
+    item_is j p [] is (said_done p j.words done.kind ∙ ap (λ n. take n j.words) none)
 
 none_left : (ws : List ℕ) → length ws ≡ 0 → ws ≡ []
 none_left [] e = refl
 none_left (w ∷ ws) e = absurd (omega (arith, e))
-
--- a fixed answer is read without page words, whatever comes back with it: no more comes back than came
-pub said_fixed : (i j : Item) → page_waits i ≡ true → j.packet ≡ (page_fixed i).packet → length j.words ≤ length i.words → said_item j ≡ page_fixed i
-unfolding page_fixed
-said_fixed i j waits is few =
-    let came = bytes_in i.words in
-    let len = length-bytes_in i.words in
-    let w = page_fixed_vstor (vstor_of i.packet) (lacks_page i) came in
-    let p = done_packet (id_of i.packet) w [] in
-    by_test (length came == 0)
-    (λ none.
-    let bare : j.words ≡ [] = none_left j.words (grind (arith, nat_tests, none, len, few)) in
-    ap (λ x. said_item (item_of x j.words)) is ∙ ap (λ ws. said_item (item_of p ws)) bare ∙ said_bare p)
-    (λ some.
-    let silent = silent_fixed (vstor_of i.packet) (lacks_page i) came (waits_formed i waits) some in
-    let done = done_completes (id_of i.packet) w silent.form silent.allowed in
-    let none : words_for (came_in p) ≡ 0 = ap words_for (came_is p w done ∙ silent.none) in
-    item_is j p [] is (said_done p j.words done.kind ∙ ap (λ n. take n j.words) none))
 
 -- requests
 
@@ -384,11 +377,9 @@ unfolding srb_asked
 same_asked v lacks xs ys gives len =
     ap (λ r. cond (v.operation == 3) (cond lacks None (with_room (length xs) r)) None) (same_request v xs ys gives) ∙ ap (λ n. cond (v.operation == 3) (cond lacks None (with_room n (request_of v ys))) None) len
 
-pub same_fixed : (v : Vstor) (lacks : Bool) (xs ys : List ℕ) → gives_bytes v ≡ true → length xs ≡ length ys → page_fixed_vstor v lacks xs ≡ page_fixed_vstor v lacks ys
+pub same_fixed : (v : Vstor) (lacks : Bool) (xs ys : List ℕ) → gives_bytes v ≡ true → page_fixed_vstor v lacks xs ≡ page_fixed_vstor v lacks ys
 unfolding page_fixed_vstor
-same_fixed v lacks xs ys gives len =
-    ap (λ r. cond (v.operation == 3) (stop_of v (cond lacks 4 (stopped_by r))) (start_answer (length xs) (answer_of v))) (same_request v xs ys gives)
-    ∙ ap (λ n. cond (v.operation == 3) (stop_of v (cond lacks 4 (stopped_by (request_of v ys)))) (start_answer n (answer_of v))) len
+same_fixed v lacks xs ys gives = ap (λ r. cond (v.operation == 3) (stop_of v (cond lacks 4 (stopped_by r))) (silent_answer (answer_of v))) (same_request v xs ys gives)
 
 -- what is read of an item, and what is fixed for it, is the same for its words as they came
 pub record IsReadSo (i : Item) : Type 0 where
@@ -426,9 +417,8 @@ fixed_zeros : (p ws : List ℕ) → reads_into p ≡ true → page_fixed (item_o
 unfolding page_fixed
 fixed_zeros p ws reads =
     let zeros = replicate (length ws) 0 in
-    let len : length (bytes_in zeros) ≡ length (bytes_in ws) = length-bytes_in zeros ∙ ap (λ n. 8 * n) (length-replicate {A = ℕ} (length ws) 0) ∙ sym (length-bytes_in ws) in
     ap (λ b. item_of (done_packet (id_of p) (page_fixed_vstor (vstor_of p) b (bytes_in zeros)) []) []) (lacks_zeros p ws)
-    ∙ ap (λ v. item_of (done_packet (id_of p) v []) []) (same_fixed (vstor_of p) (lacks_page (item_of p ws)) (bytes_in zeros) (bytes_in ws) (gives_here p reads) len)
+    ∙ ap (λ v. item_of (done_packet (id_of p) v []) []) (same_fixed (vstor_of p) (lacks_page (item_of p ws)) (bytes_in zeros) (bytes_in ws) (gives_here p reads))
 
 unread : (i : Item) → page_waits i ≡ false → page_read i ≡ None
 unfolding page_read

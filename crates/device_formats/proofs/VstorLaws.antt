@@ -1,7 +1,7 @@
 -- Storage packets in packets: they are read as they were written.
 use Rattle.std.proofs.Common.{◌≡◌, ℕ, ◌+◌, ◌-◌, ◌*◌, ◌^◌, ◌<◌, ◌≤◌, true, List, [], ◌∷◌, ◌++◌, length, take, drop, replicate, refl, ap, ◌∙◌, append_assoc, length-append, length-drop, arith}
 use Rattle.std.specs.Prelude.{is_none}
-use Rattle.std.proofs.lemmas.List.{take_at, drop_at, length-take-le}
+use Rattle.std.proofs.lemmas.List.{take_at, length-take-le}
 use Rattle.wire_table.specs.Little.{bytes_of}
 use Rattle.wire_table.specs.Rows.{Row, num, raw, Kind, nums, raws, Has, AllHave}
 use Rattle.wire_table.proofs.RowLaws.{IsBytes, all_bytes, length-spelled_after}
@@ -13,7 +13,7 @@ use Rattle.stor_proto.specs.declared.vstor.Vstor.{Vstor}
 use Rattle.stor_proto.proofs.FieldLaws.{length-with_number}
 use Rattle.stor_proto.proofs.PacketLaws.{vstor_only}
 use Rattle.device_formats.specs.Packets.{content_of}
-use Rattle.device_formats.specs.Disks.{vstor_of, data_of, has_vstor}
+use Rattle.device_formats.specs.Disks.{vstor_of, has_vstor}
 use Rattle.device_formats.proofs.ByteLaws.{from_all, append_bytes, number_bytes}
 use Rattle.device_formats.proofs.PacketLaws.{content_kept}
 
@@ -59,31 +59,25 @@ pub length-vstor : (v : Vstor) → InForm v → length (vstor_bytes v) ≡ 64
 unfolding vstor_bytes
 length-vstor v form = length-spelled_after vstor_kinds (rows_of v) form
 
--- the zeros that fill the last word behind a storage packet with so many bytes
-abbrev pub zeros_behind : ℕ → List ℕ
-zeros_behind n = replicate (8 * words_for (64 + n) - (64 + n)) 0
-
--- a packet with a storage packet and bytes behind it
-pub record Read (p : List ℕ) (v : Vstor) (more : List ℕ) : Type 0 where
+-- it is read as it was written
+pub record Read (p : List ℕ) (v : Vstor) : Type 0 where
   pub has : has_vstor p ≡ true
   pub vstor : vstor_of p ≡ v
-  pub behind : data_of p ≡ more ++ zeros_behind (length more)
 
-pub read_again : (kind id flags : ℕ) (v : Vstor) (more : List ℕ) → kind < 2 ^ 16 → InForm v → IsAllowed v → IsBytes more → Read (plain_packet kind id flags (vstor_bytes v ++ more)) v more
-unfolding has_vstor vstor_of data_of
+pub read_again : (kind id flags : ℕ) (v : Vstor) (more : List ℕ) → kind < 2 ^ 16 → InForm v → IsAllowed v → IsBytes more → Read (plain_packet kind id flags (vstor_bytes v ++ more)) v
+unfolding has_vstor vstor_of
 read_again kind id flags v more small form allowed bytes =
     let b = vstor_bytes v in
     let p = plain_packet kind id flags (b ++ more) in
     let l64 : length b ≡ 64 = length-vstor v form in
     let len : length (b ++ more) ≡ 64 + length more = length-append b more ∙ ap (λ n. n + length more) l64 in
-    let shape : content_of p ≡ b ++ (more ++ zeros_behind (length more)) =
+    let shape : content_of p ≡ b ++ (more ++ replicate (8 * words_for (64 + length more) - (64 + length more)) 0) =
     content_kept kind id flags (b ++ more) small (append_bytes b more (vstor_are_bytes v (formed v form)) bytes)
-    ∙ (ap (λ n. (b ++ more) ++ replicate (8 * words_for n - n) 0) len ∙ append_assoc b more (zeros_behind (length more))) in
-    let only = vstor_only v (content_of p) form allowed (ap (take 64) shape ∙ take_at b (more ++ zeros_behind (length more)) 64 l64) in
+    ∙ (ap (λ n. (b ++ more) ++ replicate (8 * words_for n - n) 0) len ∙ append_assoc b more (replicate (8 * words_for (64 + length more) - (64 + length more)) 0)) in
+    let only = vstor_only v (content_of p) form allowed (ap (take 64) shape ∙ take_at b (more ++ replicate (8 * words_for (64 + length more) - (64 + length more)) 0) 64 l64) in
     record {
       has = ap is_none only.0;
       vstor = only.1;
-      behind = ap (drop 64) shape ∙ drop_at b (more ++ zeros_behind (length more)) 64 l64;
     }
 
 pub length-with_bytes : (at : ℕ) (part b : List ℕ) → at + length part ≤ length b → length (with_bytes at part b) ≡ length b

@@ -8,6 +8,4 @@ pub mod Nets
 pub mod Kinds
 pub mod Wants
 pub mod Formats
-pub mod ItemFormats
-pub mod PageFormats
 pub mod ChannelScript

@@ -55,17 +55,14 @@ page_read i = if page_waits i then srb_asked (vstor_of i.packet) (lacks_page i) 
 abbrev pub refused_vstor : Vstor
 refused_vstor = record { operation = 1; flags = 0; status = 1; rest = replicate 52 0 }
 
--- The answer to a request of the start-up. One that came with page words, and whose bytes are those of an srb that gave bytes back, is refused: nothing of an
--- answer to it may be read in the page that goes back
+-- The answer to a request of the start-up. One whose bytes are those of an srb that gave bytes back is refused: nothing of an answer to it may be read in the
+-- page that goes back, and one that isn't its own may go back under its id
 abbrev pub silent_answer : Vstor → Vstor
 silent_answer w = if came_with w == 0 then w else refused_vstor
 
-abbrev pub start_answer : ℕ → Vstor → Vstor
-start_answer room w = if room == 0 then w else silent_answer w
-
 -- The answer to what asks nothing of the disk. An srb is stopped with status 4, an error, where it came without its page, or where its reply has no room there
 unfoldable pub page_fixed_vstor : Vstor → Bool → List ℕ → Vstor
-page_fixed_vstor v lacks came = if v.operation == 3 then stop_of v (if lacks then 4 else stopped_by (request_of v came)) else start_answer (length came) (answer_of v)
+page_fixed_vstor v lacks came = if v.operation == 3 then stop_of v (if lacks then 4 else stopped_by (request_of v came)) else silent_answer (answer_of v)
 
 unfoldable pub page_fixed : Item → Item
 page_fixed i = item_of (done_packet (id_of i.packet) (page_fixed_vstor (vstor_of i.packet) (lacks_page i) (bytes_in i.words)) []) []
@@ -102,11 +99,10 @@ page_ask id q = if bytes_of_ask q == 0 then item_of (sent_packet id (ask_of q) [
 unfoldable pub fits_page : DiskRequest → Bool
 fits_page q = (length q.cdb == 16) && (list_all (λ b. nat_lt b 256) q.cdb && nat_le (bytes_of_ask q) 4096)
 
--- a request that can be asked: of a built command that moves at most a page, and asks for all that may come, with data exactly where it is a write
+-- a request that can be asked: of a built command that moves at most a page, with data exactly where it is a write
 pub record IsPageAsk (q : DiskRequest) : Type 0 where
   pub built : IsSome (command_of q.cdb)
   pub few : bytes_of_ask q ≤ 4096
-  pub whole : most_back (command_of q.cdb) ≤ bytes_of_ask q
   pub own : HasItsData q
   pub len : length q.cdb ≡ 16
   pub cdb_bytes : AllByRecursion (λ b. b < 256) q.cdb

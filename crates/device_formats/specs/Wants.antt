@@ -10,7 +10,8 @@ use Rattle.device_formats.specs.declared.want.Want.{Want}
 use Rattle.device_formats.specs.declared.want.Want.TheVariants.{Starts}
 use Rattle.stor_proto.specs.Fields.{number_at}
 use Rattle.stor_proto.specs.Opening.{answer_of}
-use Rattle.device_formats.specs.Disks.{start_vstor, IsDiskAsk}
+use Rattle.device_formats.specs.Disks.{start_vstor}
+use Rattle.device_formats.specs.PageDisks.{IsPageAsk}
 use Rattle.device_formats.specs.Nets.{can_ask}
 use Rattle.device_formats.specs.Kinds.{ic_request, disk_request, net_request}
 
@@ -76,5 +77,5 @@ CanBe Can (Some q) = Can q
 abbrev pub IsAskable : DeviceKind → Ask → Type 0
 IsAskable Beat ask = CanBe IsBeatAsk (ic_request ask)
 IsAskable Down ask = CanBe IsDownAsk (ic_request ask)
-IsAskable Disk ask = CanBe IsDiskAsk (disk_request ask)
+IsAskable Disk ask = CanBe IsPageAsk (disk_request ask)
 IsAskable Net ask = CanBe IsNetAsk (net_request ask)

@@ -12,7 +12,7 @@ ghost use Rattle.scsi_disk.specs.DiskModel.{most_back};
 ghost use Rattle.scsi_disk.specs.declared.request.DiskRequest.{DiskRequest};
 ghost use Rattle.scsi_disk.specs.declared.reply.DiskReply.{DiskReply};
 ghost use Rattle.stor_proto.specs.Opening.{answer_of};
-ghost use Rattle.stor_proto.specs.Srbs.{request_of, stop_of};
+ghost use Rattle.stor_proto.specs.Srbs.{request_of, data_in, stop_of};
 ghost use Rattle.channel_protocol.specs.Paged.{KeepsPages};
 ghost use Rattle.rndis_msg.specs.declared.rndis.Rndis.{Rndis as Message};
 ghost use Rattle.net_dev.specs.declared.reply.NetReply.{NetReply};
@@ -24,37 +24,32 @@ ghost use Rattle.bus_script.specs.declared.outcome.Reply.TheVariants.{Net as Rep
 ghost use Rattle.channel_model.specs.WireFormat.{Keeps};
 ghost use Rattle.channel_model.specs.Amounts.{MayHaveMessages};
 ghost use Rattle.channel_model.specs.Channel.{AllFixed, AllAsk};
-ghost use Rattle.device_formats.specs.Codecs.{format_by};
-ghost use Rattle.device_formats.specs.Disks.{vstor_of, done_packet, disk_fits, disk_codec};
-ghost use Rattle.device_formats.specs.Items.{said_item};
-ghost use Rattle.device_formats.specs.PageDisks.{page_waits, lacks_page, page_read, page_fixed, page_answer, IsPageAsk};
-ghost use Rattle.device_formats.specs.PageFormats.{page_format, lends_on};
+ghost use Rattle.device_formats.specs.Codecs.{alone, format_by};
+ghost use Rattle.device_formats.specs.Disks.{vstor_of, done_packet, disk_fits, start_vstor};
+ghost use Rattle.device_formats.specs.Items.{came_with, said_item};
+ghost use Rattle.device_formats.specs.PageDisks.{page_waits, lacks_page, page_read, refused_vstor, page_fixed, page_answer, page_codec};
 ghost use Rattle.device_formats.specs.Nets.{net_format};
 ghost use Rattle.device_formats.specs.Services.{service_codec};
 ghost use Rattle.device_formats.specs.declared.want.Want.{Want};
 ghost use Rattle.device_formats.specs.declared.want.Want.TheVariants.{Starts, Script};
 ghost use Rattle.device_formats.specs.Wants.{startup, AsksForSubs, IsAskable};
-ghost use Rattle.device_formats.specs.ItemFormats.{item_format};
-ghost use Rattle.device_formats.specs.Formats.{asked_as, besides_on, encode_on, read_on, fits_on, format_of};
+ghost use Rattle.device_formats.specs.Formats.{asked_as, besides_on, encode_on, read_on, fits_on, format_of, lends_on};
 
 /// The packets of a service's channel keep to the laws of a wire format in the service's own requests and replies, those of a disk's in the disk's, and those of a
 /// network's in the adapter's.
 pub fn kinds_keep()
     ensures service { (kind : DeviceKind) → Keeps (format_by (service_codec kind)) }
-    ensures disk { Keeps (format_by disk_codec) }
+    ensures disk { Keeps (format_by page_codec) }
     ensures net { Keeps net_format }
 {}
 
 /// The packets of each kind of channel, in the requests and replies of all kinds, keep to the laws of a wire format: each request that has an answer is answered once, under its id, and the reply is
-/// read in the answer.
+/// read in the answer. A disk and a service give no message besides the answer. And those of a disk's channel keep to what data pages ask: a request lends the page of its id or none, and a completion
+/// brings back no more words than came.
 pub fn keeps_to_its_laws()
-    ensures { (kind : DeviceKind) → Keeps (format_of kind) }
-{}
-
-/// And so do the items that carry them on a channel without data pages. A disk and a service give no message besides the answer.
-pub fn items_keep_to_them()
-    ensures keeps { (kind : DeviceKind) → Keeps (item_format kind) }
-    ensures may { (kind : DeviceKind) → MayHaveMessages (item_format kind) (besides_on kind) }
+    ensures keeps { (kind : DeviceKind) → Keeps (format_of kind) }
+    ensures may { (kind : DeviceKind) → MayHaveMessages (format_of kind) (besides_on kind) }
+    ensures pages { (kind : DeviceKind) → lends_on kind ≡ true → KeepsPages (format_of kind) }
 {}
 
 /// What goes back for a start-up is fixed: no device is asked.
@@ -87,20 +82,6 @@ pub fn asks_what_was_asked()
     ensures { (kind : DeviceKind) (id : ℕ) (ask : Ask) → IsAskable kind ask → read_on kind (encode_on kind id (Script ask)) ≡ Some (asked_as id ask) }
 {}
 
-/// Over data pages the items of each kind of channel keep to these laws too, and those of a disk's channel to what pages ask: a request lends the page of its id
-/// or none, and a completion brings back no more words than came.
-pub fn pages_keep()
-    ensures keeps { (kind : DeviceKind) → Keeps (page_format kind) }
-    ensures may { (kind : DeviceKind) → MayHaveMessages (page_format kind) (besides_on kind) }
-    ensures pages { (kind : DeviceKind) → lends_on kind ≡ true → KeepsPages (page_format kind) }
-{}
-
-/// Over data pages the disk is asked exactly what the script asked, and a start-up asks nothing of it.
-pub fn pages_ask_what_was_asked()
-    ensures script { (id : ℕ) (request : DiskRequest) → IsPageAsk request → (page_format Disk).read ((page_format Disk).encode id (Script (AskDisk request))) ≡ Some (AskDisk request) }
-    ensures start { (id step : ℕ) → (page_format Disk).read ((page_format Disk).encode id (Starts step)) ≡ None }
-{}
-
 /// An srb that came without the page that it names asks nothing of the disk, and is stopped with status 4.
 pub fn an_srb_without_its_page_is_stopped()
     ensures { (i : Item) → page_waits i ≡ true → lacks_page i ≡ true → (vstor_of i.packet).operation ≡ 3 → (page_read i ≡ None) × (page_fixed i ≡ item_of (done_packet (id_of i.packet) (stop_of (vstor_of i.packet) 4) []) []) }
@@ -114,8 +95,16 @@ pub fn an_srb_without_room_is_stopped()
 /// Whatever stood in a page before, and stands behind what came, what an item says is read of it: what was asked, what is answered, and nothing where the answer is
 /// fixed.
 pub fn pages_are_read_as_meant()
-    ensures asked { (id : ℕ) (ask : Want) → said_item ((page_format Disk).encode id ask) ≡ (page_format Disk).encode id ask }
+    ensures asked { (id : ℕ) (ask : Want) → said_item ((format_of Disk).encode id ask) ≡ (format_of Disk).encode id ask }
+    ensures reads { (id : ℕ) (request : DiskRequest) (came : Item) → data_in (command_of request.cdb) ≡ 1 → came.packet ≡ (encode_on Disk id (Script (AskDisk request))).packet → length came.words ≡ length (encode_on Disk id (Script (AskDisk request))).words → said_item came ≡ encode_on Disk id (Script (AskDisk request)) }
     ensures answered { (i : Item) (request : DiskRequest) (reply : DiskReply) (came : Item) → page_read i ≡ Some request → disk_fits request reply ≡ true → came.packet ≡ (page_answer i reply).packet → take (length (page_answer i reply).words) came.words ≡ (page_answer i reply).words → said_item came ≡ page_answer i reply }
-    ensures fixed { (i came : Item) → page_waits i ≡ true → came.packet ≡ (page_fixed i).packet → length came.words ≤ length i.words → said_item came ≡ page_fixed i }
-    ensures start { (i : Item) → i.words ≡ [] → (vstor_of i.packet).operation ≢ 3 → page_fixed i ≡ item_of (done_packet (id_of i.packet) (answer_of (vstor_of i.packet)) []) [] }
+    ensures fixed { (i came : Item) → page_waits i ≡ true → came.packet ≡ (page_fixed i).packet → said_item came ≡ page_fixed i }
+{}
+
+/// A request of a disk's start-up asks nothing of the disk. It is answered as it is, unless the bytes of its answer are those of an srb that gave bytes back: then it is
+/// refused, with status 1 and 0 in all else. None that this program sends is refused so.
+pub fn start_up_is_answered_as_it_is()
+    ensures exact { (i : Item) → (vstor_of i.packet).operation ≢ 3 → came_with (answer_of (vstor_of i.packet)) ≡ 0 → (page_read i ≡ None) × (page_fixed i ≡ item_of (done_packet (id_of i.packet) (answer_of (vstor_of i.packet)) []) []) }
+    ensures refused { (i : Item) → (vstor_of i.packet).operation ≢ 3 → came_with (answer_of (vstor_of i.packet)) ≢ 0 → (page_read i ≡ None) × (page_fixed i ≡ item_of (done_packet (id_of i.packet) refused_vstor []) []) }
+    ensures own { (id k : ℕ) → (format_of Disk).fixed (encode_on Disk id (Starts k)) ≡ Some (alone (item_of (done_packet id (answer_of (start_vstor k)) []) [])) }
 {}

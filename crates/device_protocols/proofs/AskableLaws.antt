@@ -1,5 +1,5 @@
 -- What can be asked of a disk.
-use Rattle.std.proofs.Common.{◌≡◌, ℕ, ◌≤◌, false, List, [], ◌∷◌, length, Option, Some, refl, sym, ap, subst, arith}
+use Rattle.std.proofs.Common.{◌≡◌, ℕ, ◌≤◌, false, List, [], ◌∷◌, length, Option, Some, refl, subst, arith}
 use Rattle.std.specs.Prelude.{IsSome}
 use Rattle.std.proofs.lemmas.List.{take_all}
 use Rattle.wire_table.proofs.RowLaws.{IsBytes, all_bytes}
@@ -9,14 +9,14 @@ use Rattle.scsi_disk.specs.declared.command.Command.TheVariants.{TestUnitReady, 
 use Rattle.stor_proto.specs.Srbs.{bytes_moved, data_for}
 use Rattle.rndis_msg.specs.declared.rndis.Rndis.{Rndis}
 use Rattle.rndis_msg.specs.declared.rndis.Rndis.TheVariants.{Packet, Query, Set, Reset, Keepalive}
-use Rattle.device_formats.specs.Disks.{IsDiskAsk}
+use Rattle.device_formats.specs.PageDisks.{IsPageAsk}
 use Rattle.device_formats.specs.Nets.{can_ask}
 
 -- what the command of a request says of its data
 abbrev Takes : Option Command → List ℕ → Type 0
-Takes k out = IsSome k × (bytes_moved k (length out) ≤ 2048) × (data_for k (length out) out ≡ out)
+Takes k out = IsSome k × (bytes_moved k (length out) ≤ 4096) × (data_for k (length out) out ≡ out)
 
-takes_none : (c : Command) → bytes_moved (Some c) 0 ≤ 2048 → Takes (Some c) []
+takes_none : (c : Command) → bytes_moved (Some c) 0 ≤ 4096 → Takes (Some c) []
 takes_none TestUnitReady few = (refl, few, refl)
 takes_none (Inquiry s a) few = (refl, few, refl)
 takes_none ReadCapacity few = (refl, few, refl)
@@ -25,44 +25,18 @@ takes_none (Write l k) few = (refl, few, refl)
 takes_none SynchronizeCache few = (refl, few, refl)
 takes_none (LongCapacity b a) few = (refl, few, refl)
 
-can_from : (cdb out : List ℕ) → length cdb ≡ 16 → IsBytes cdb → IsBytes out → Takes (command_of cdb) out → IsDiskAsk (record { cdb = cdb; out = out })
+can_from : (cdb out : List ℕ) → length cdb ≡ 16 → IsBytes cdb → IsBytes out → Takes (command_of cdb) out → IsPageAsk (record { cdb = cdb; out = out })
 can_from cdb out len cdb_bytes out_bytes takes = record { built = takes.0; few = takes.1; own = takes.2; len = len; cdb_bytes = all_bytes cdb cdb_bytes; out_bytes = all_bytes out out_bytes }
 
 -- a write with its data
-pub write_can : (cdb out : List ℕ) (lba count : ℕ) → length cdb ≡ 16 → IsBytes cdb → IsBytes out → Some (Write lba count) ≡ command_of cdb → length out ≤ 2048 → IsDiskAsk (record { cdb = cdb; out = out })
+pub write_can : (cdb out : List ℕ) (lba count : ℕ) → length cdb ≡ 16 → IsBytes cdb → IsBytes out → Some (Write lba count) ≡ command_of cdb → length out ≤ 4096 → IsPageAsk (record { cdb = cdb; out = out })
 write_can cdb out lba count len cdb_bytes out_bytes is few =
     can_from cdb out len cdb_bytes out_bytes (subst (λ k. Takes k out) is (refl, few, take_all (length out) out (omega arith)))
 
 -- another command, which takes none
-pub other_can : (cdb out : List ℕ) (c : Command) → length cdb ≡ 16 → IsBytes cdb → IsBytes out → Some c ≡ command_of cdb → length out ≡ 0 → bytes_moved (Some c) 0 ≤ 2048 → IsDiskAsk (record { cdb = cdb; out = out })
+pub other_can : (cdb out : List ℕ) (c : Command) → length cdb ≡ 16 → IsBytes cdb → IsBytes out → Some c ≡ command_of cdb → length out ≡ 0 → bytes_moved (Some c) 0 ≤ 4096 → IsPageAsk (record { cdb = cdb; out = out })
 other_can cdb [] c len cdb_bytes out_bytes is none few = can_from cdb [] len cdb_bytes out_bytes (subst (λ k. Takes k []) is (takes_none c few))
 other_can cdb (b ∷ out) c len cdb_bytes out_bytes is none few = absurd (omega arith)
-
--- what can be asked of a disk: a write has few bytes of data, and another command none
-takes_of : (cdb out : List ℕ) → IsDiskAsk (record { cdb = cdb; out = out }) → Takes (command_of cdb) out
-takes_of cdb out can = (can.built, can.few, can.own)
-
-takes_as : (cdb out : List ℕ) (c : Command) → Some c ≡ command_of cdb → IsDiskAsk (record { cdb = cdb; out = out }) → Takes (Some c) out
-takes_as cdb out c is can = subst (λ k. Takes k out) (sym is) (takes_of cdb out can)
-
-pub write_few : (cdb out : List ℕ) (lba count : ℕ) → Some (Write lba count) ≡ command_of cdb → IsDiskAsk (record { cdb = cdb; out = out }) → length out ≤ 2048
-write_few cdb out lba count is can = (takes_as cdb out (Write lba count) is can).1
-
-abbrev IsOther : Command → Type 0
-IsOther (Write lba count) = ⊥
-IsOther c = Unit {0}
-
-none_taken : (c : Command) (out : List ℕ) → IsOther c → Takes (Some c) out → (length out ≡ 0) × (bytes_moved (Some c) 0 ≤ 2048)
-none_taken TestUnitReady out other takes = (sym (ap length takes.2), omega arith)
-none_taken (Inquiry s a) out other takes = (sym (ap length takes.2), takes.1)
-none_taken ReadCapacity out other takes = (sym (ap length takes.2), omega arith)
-none_taken (Read l k) out other takes = (sym (ap length takes.2), takes.1)
-none_taken (Write l k) out other takes = absurd other
-none_taken SynchronizeCache out other takes = (sym (ap length takes.2), omega arith)
-none_taken (LongCapacity b a) out other takes = (sym (ap length takes.2), takes.1)
-
-pub other_few : (cdb out : List ℕ) (c : Command) → IsOther c → Some c ≡ command_of cdb → IsDiskAsk (record { cdb = cdb; out = out }) → (length out ≡ 0) × (bytes_moved (Some c) 0 ≤ 2048)
-other_few cdb out c other is can = none_taken c out other (takes_as cdb out c is can)
 
 -- a message of another type is no request of an adapter
 pub never_asks : (m : Rndis) → ((body : List ℕ) → m ≡ Packet body → ⊥) → ((id oid : ℕ) (body : List ℕ) → m ≡ Query id oid body → ⊥) → ((id oid : ℕ) (body : List ℕ) → m ≡ Set id oid body → ⊥) → (m ≡ Reset → ⊥) → ((id : ℕ) → m ≡ Keepalive id → ⊥)

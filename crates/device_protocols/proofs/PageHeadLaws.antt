@@ -23,7 +23,7 @@ use Rattle.device_formats.specs.Codecs.{alone, fixed_back}
 use Rattle.device_formats.specs.Packets.{is_completion}
 use Rattle.device_formats.specs.Disks.{has_vstor, vstor_of, stopped_by, done_packet, back_of, disk_fits}
 use Rattle.device_formats.specs.Items.{came_in, came_with, said_item, gives_bytes}
-use Rattle.device_formats.specs.PageDisks.{page_waits, lacks_page, with_room, srb_asked, page_read, start_answer, page_fixed_vstor, page_fixed, page_result, page_codec, page_answer}
+use Rattle.device_formats.specs.PageDisks.{page_waits, lacks_page, with_room, srb_asked, page_read, silent_answer, page_fixed_vstor, page_fixed, page_result, page_codec, page_answer}
 use Rattle.device_formats.proofs.DoneLaws.{back_fits}
 use Rattle.device_formats.proofs.PageDoneLaws.{waits_has, page_asks}
 use Rattle.device_formats.proofs.SaidLaws.{is_read_so, read_said, said_fixed, same_request, said_answer, result_words}
@@ -51,15 +51,15 @@ srb_is v lacks came is = let t : (v.operation == 3) ≡ true = ap (λ n. n == 3)
 
 fixed_srb_is : (v : Vstor) (lacks : Bool) (came : List ℕ) → v.operation ≡ 3 → page_fixed_vstor v lacks came ≡ stop_of v (cond lacks 4 (stopped_by (request_of v came)))
 unfolding page_fixed_vstor
-fixed_srb_is v lacks came is = let t : (v.operation == 3) ≡ true = ap (λ n. n == 3) is in ap (λ b. cond b (stop_of v (cond lacks 4 (stopped_by (request_of v came)))) (start_answer (length came) (answer_of v))) t
+fixed_srb_is v lacks came is = let t : (v.operation == 3) ≡ true = ap (λ n. n == 3) is in ap (λ b. cond b (stop_of v (cond lacks 4 (stopped_by (request_of v came)))) (silent_answer (answer_of v))) t
 
 pub other_asked : (v : Vstor) (lacks : Bool) (came : List ℕ) → (v.operation ≡ 3 → ⊥) → srb_asked v lacks came ≡ None
 unfolding srb_asked
 other_asked v lacks came not = let t : (v.operation == 3) ≡ false = grind (arith, nat_tests, not) in ap (λ b. cond b (cond lacks None (with_room (length came) (request_of v came))) None) t
 
-other_fixed : (v : Vstor) (lacks : Bool) (came : List ℕ) → (v.operation ≡ 3 → ⊥) → page_fixed_vstor v lacks came ≡ start_answer (length came) (answer_of v)
+other_fixed : (v : Vstor) (lacks : Bool) (came : List ℕ) → (v.operation ≡ 3 → ⊥) → page_fixed_vstor v lacks came ≡ silent_answer (answer_of v)
 unfolding page_fixed_vstor
-other_fixed v lacks came not = let t : (v.operation == 3) ≡ false = grind (arith, nat_tests, not) in ap (λ b. cond b (stop_of v (cond lacks 4 (stopped_by (request_of v came)))) (start_answer (length came) (answer_of v))) t
+other_fixed v lacks came not = let t : (v.operation == 3) ≡ false = grind (arith, nat_tests, not) in ap (λ b. cond b (stop_of v (cond lacks 4 (stopped_by (request_of v came)))) (silent_answer (answer_of v))) t
 
 -- it is stopped so, or asks the disk
 abbrev pub Stops : Vstor → Bool → ℕ → ℕ → Type 0
@@ -106,9 +106,8 @@ asks_nothing v lacks room other = λ came len. sym (ap is_some (other_asked v la
 abbrev Fixed : Vstor → Bool → ℕ → Vstor → Type 0
 Fixed v lacks room w = IsAllowed w × ((came : List ℕ) → length came ≡ room → (is_none (srb_asked v lacks came) ≡ true) × (w ≡ page_fixed_vstor v lacks came))
 
-pub fixed_other : (v : Vstor) (lacks : Bool) (room : ℕ) (w : Vstor) → (v.operation ≡ 3 → ⊥) → IsAllowed w → w ≡ start_answer room (answer_of v) → Fixed v lacks room w
-fixed_other v lacks room w other allowed is =
-    (allowed, λ came len. (ap is_none (other_asked v lacks came other), is ∙ (ap (λ n. start_answer n (answer_of v)) (sym len) ∙ sym (other_fixed v lacks came other))))
+pub fixed_other : (v : Vstor) (lacks : Bool) (room : ℕ) (w : Vstor) → (v.operation ≡ 3 → ⊥) → IsAllowed w → w ≡ silent_answer (answer_of v) → Fixed v lacks room w
+fixed_other v lacks room w other allowed is = (allowed, λ came len. (ap is_none (other_asked v lacks came other), is ∙ sym (other_fixed v lacks came other)))
 
 pub fixed_srb : (v : Vstor) (lacks : Bool) (room : ℕ) (w : Vstor) (status : ℕ) → Stops v lacks room status → w ≡ stop_of v status → Fixed v lacks room w
 fixed_srb v lacks room w status stops is =
@@ -158,9 +157,9 @@ fixed_said i waits none =
     let nothing : is_none (page_read (said_item i)) ≡ true = ap is_none none in
     rw (waits_too, nothing) (ap (λ (x : Item). Some (alone x)) (so.fixed waits))
 
-pub fixed_goes : (i : Item) (p : List ℕ) (n : ℕ) → page_waits i ≡ true → page_read (said_item i) ≡ None → p ≡ (page_fixed i).packet → 0 < length p → n ≤ length i.words → LaysSome said_item p [] n (answer_in (fixed_back page_codec (said_item i)))
-fixed_goes i p n waits none is some few =
-    subst (λ o. LaysSome said_item p [] n (answer_in o)) (sym (fixed_said i waits none)) (some, λ j lays. said_fixed i j waits (lays.packet_is ∙ is) (omega (arith, lays.long, few)))
+pub fixed_goes : (i : Item) (p : List ℕ) (n : ℕ) → page_waits i ≡ true → page_read (said_item i) ≡ None → p ≡ (page_fixed i).packet → 0 < length p → LaysSome said_item p [] n (answer_in (fixed_back page_codec (said_item i)))
+fixed_goes i p n waits none is some =
+    subst (λ o. LaysSome said_item p [] n (answer_in o)) (sym (fixed_said i waits none)) (some, λ j lays. said_fixed i j waits (lays.packet_is ∙ is))
 
 pub none_goes : (i : Item) (p : List ℕ) (n : ℕ) → page_waits i ≡ false → p ≡ [] → LaysSome said_item p [] n (answer_in (fixed_back page_codec (said_item i)))
 none_goes i p n not is =

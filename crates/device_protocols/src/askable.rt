@@ -2,7 +2,7 @@
 ghost use Rattle.std.specs.Prelude.{◌≡◌, ◌≤◌, ◌<◌, ◌^◌, true, Some};
 ghost use Rattle.std.specs.List.{AllByRecursion};
 ghost use Rattle.stor_proto.specs.Srbs.{bytes_moved};
-ghost use Rattle.device_formats.specs.Disks.{IsDiskAsk};
+ghost use Rattle.device_formats.specs.PageDisks.{IsPageAsk};
 ghost use Rattle.device_formats.specs.Nets.{can_ask};
 ghost use Rattle.device_formats.specs.Wants.{IsBeatAsk, IsDownAsk, IsAskable};
 
@@ -12,7 +12,7 @@ use rndis_msg::Rndis;
 use scsi_disk::Command;
 use util_ic::IcAsk;
 
-/// Whether this can be asked on a channel of this kind, and exactly that: a heartbeat, a shutdown, or of a disk a built command that moves at most 2,048 bytes, with data
+/// Whether this can be asked on a channel of this kind, and exactly that: a heartbeat, a shutdown, or of a disk a built command that moves at most 4,096 bytes, with data
 /// exactly where it is a write, and of an adapter a frame, a query, a set, a reset or a keepalive.
 pub fn is_askable(kind: DeviceKind, ask: &Ask) -> bool
     ensures can { result ≡ true → IsAskable kind ask.now }
@@ -45,12 +45,12 @@ fn is_down_ask(ask: IcAsk) -> bool
 
 /// Whether this command with this data can be asked of a disk.
 fn is_disk_ask(cdb: &[u8; 16], out: &[u8]) -> bool
-    ensures can { result ≡ true → IsDiskAsk (record { cdb = cdb.now; out = out.now }) }
-    ensures only { IsDiskAsk (record { cdb = cdb.now; out = out.now }) → result ≡ true }
+    ensures can { result ≡ true → IsPageAsk (record { cdb = cdb.now; out = out.now }) }
+    ensures only { IsPageAsk (record { cdb = cdb.now; out = out.now }) → result ≡ true }
 {
     are_bytes(cdb);
     match Command::of(cdb) {
-        Some(Command::Write { .. }) => out.len() <= 2_048,
+        Some(Command::Write { .. }) => out.len() <= 4_096,
         Some(command) => out.is_empty() && gives_few(command),
         None => false,
     }
@@ -107,13 +107,13 @@ fn are_bytes(bytes: &[u8])
     let _len = bytes.len();
 }
 
-/// Whether at most 2,048 bytes come back for a command that takes none.
+/// Whether at most 4,096 bytes come back for a command that takes none.
 fn gives_few(command: Command) -> bool
-    ensures can { result ≡ true → bytes_moved (Some command) 0 ≤ 2048 }
-    ensures only { bytes_moved (Some command) 0 ≤ 2048 → result ≡ true }
+    ensures can { result ≡ true → bytes_moved (Some command) 0 ≤ 4096 }
+    ensures only { bytes_moved (Some command) 0 ≤ 4096 → result ≡ true }
 {
     match command {
-        Command::Read { count, .. } => count <= 4,
+        Command::Read { count, .. } => count <= 8,
         _ => true,
     }
 }

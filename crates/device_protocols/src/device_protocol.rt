@@ -1,8 +1,11 @@
 //! The protocol of a channel of any kind.
-ghost use Rattle.std.specs.Prelude.{◌≡◌, ◌≤◌, ◌<◌, ◌^◌, ◌&&◌, ◌==◌, ◌⊎◌, ◌∷◌, ◌+◌, ◌++◌, [], length, take, slice_get, true, false, Some, None, IsSome, MatchOption, is_some, vec_len, vec_capacity};
+ghost use Rattle.std.specs.Prelude.{◌≡◌, ◌≤◌, ◌<◌, ◌^◌, ◌&&◌, ◌==◌, ◌⊎◌, ◌+◌, ◌++◌, ℕ, [], length, take, slice_get, true, false, Some, None, IsSome, MatchOption, is_some, vec_len, vec_capacity};
 ghost use Rattle.std.specs.List.{AllByRecursion};
 ghost use Rattle.ring_machine.specs.States.{IsPacket};
-ghost use Rattle.channel_protocol.specs.Listed.{answer_in, has_message_in, listed_packet, message_in, packet_in};
+ghost use Rattle.channel_protocol.specs.Listed.{answer_in, has_message_in, listed_packet, message_in};
+ghost use Rattle.channel_protocol.specs.Paged.{IsWritten, Lays, LaysSome, bare_item, item_in, words_lent};
+ghost use Rattle.page_kept.specs.declared.item.Item.{Item};
+ghost use Rattle.page_kept.specs.Items.{item_of};
 ghost use Rattle.channel_model.specs.Lift.{or_else};
 ghost use Rattle.channel_model.specs.WireFormat.{listed, under_own};
 ghost use Rattle.pkt_desc.specs.Packets.{id_of, kind_of};
@@ -12,21 +15,23 @@ ghost use Rattle.device_formats.specs.declared.want.Want.{Want as OneWant};
 ghost use Rattle.device_formats.specs.declared.want.Want.TheVariants.{Starts, Script};
 ghost use Rattle.device_formats.specs.Kinds.{ic_request as ic_of, disk_request as disk_of, net_request as net_of, disk_reply as disk_reply_of, net_reply as net_reply_of};
 ghost use Rattle.device_formats.specs.Wants.{first_steps, start_answered, subs_asked, startup, step_at, IsAskable};
-ghost use Rattle.device_formats.specs.Formats.{besides_on, encode_on, waits_on, read_on, fits_on, answer_on, said_on, format_of};
+ghost use Rattle.device_formats.specs.Formats.{besides_on, lends_on, encode_on, waits_on, read_on, fits_on, answer_on, said_on, format_of};
+ghost use Rattle.device_formats.specs.Items.{said_item};
 ghost use Rattle.device_formats.specs.Nets.{message_of};
 ghost use Rattle.device_formats.specs.ChannelScript.{asks_of};
 ghost use Rattle.device_protocols.specs.Heads.{srb_in, IsHead};
 
 use crate::Head;
-use crate::disks::{
-    disk_head, is_disk_request, keep_disk_said, read_disk, write_disk_answer, write_disk_ask,
-    write_disk_fixed, write_start,
-};
+use crate::disks::write_start;
 use crate::nets::{
     asks_net, has_net_message, is_net_request, keep_net_said, read_net, write_done, write_net_ask,
     write_net_fixed, write_net_fixed_message, write_net_message, write_net_start,
 };
 use crate::packets::{COMPLETION, INBAND, is_inband};
+use crate::page_disks::{
+    is_page_request, keep_page_said, page_head, read_page, write_page_answer, write_page_ask,
+    write_page_fixed,
+};
 use crate::services::{
     asks_service, keep_said as keep_service_said, read_service, write_ask, write_negotiate,
     write_service_answer, write_service_fixed,
@@ -89,33 +94,47 @@ impl DeviceProtocol {
         self.kind
     }
 
-    // Writes the packet that asks the k-th thing under an id: its words.
-    fn write_ask(&self, k: u32, id: u64, out: &mut [u64]) -> usize
+    // Writes the packet that asks the k-th thing under an id, and its page words.
+    fn write_ask(&self, k: u32, id: u64, out: &mut [u64], page: &mut [u64]) -> Written
         requires which { k < length (asks_of self.now) }
+        requires id { lends_on self.now.kind ≡ true → id ≤ 64 }
         requires out { length out.old ≡ 384 }
-        ensures value { (a : OneWant) → slice_get (asks_of self.now) k ≡ Some a → take result out.new ≡ encode_on self.now.kind id a }
-        ensures packet { IsPacket (take result out.new) }
-        ensures most { result ≤ 384 }
+        requires page { length page.old ≡ 512 }
+        ensures value { (a : OneWant) (i : Item) → slice_get (asks_of self.now) k ≡ Some a → Lays (take result.packet out.new) (take result.words page.new) result.lent i → said_item i ≡ encode_on self.now.kind id a }
+        ensures packet { IsPacket (take result.packet out.new) }
+        ensures most { IsWritten result }
+        ensures lent { lends_on self.now.kind ≡ true → result.lent ≡ words_lent (take result.packet out.new) }
+        ensures none { lends_on self.now.kind ≡ false → result.lent ≡ 0 }
+        ensures page { length page.new ≡ 512 }
     {
         let starts = count_starts(self.kind, self.sub, self.subs);
         if k < starts {
-            return encode_start(self.kind, self.sub, self.subs, k, id, out);
+            return Written::bare(encode_start(self.kind, self.sub, self.subs, k, id, out));
         }
-        encode_ask(self.kind, &self.asks[(k - starts) as usize], id, out)
+        encode_ask(self.kind, &self.asks[(k - starts) as usize], id, out, page)
     }
 
     // Puts what an answer says to the k-th ask at the end of the replies. A request of the start-up asks nothing of the device.
-    fn keep_answer(&self, k: u32, before: &[u64], packet: &[u64], replies: &mut Vec<Reply>)
+    fn keep_answer(
+        &self,
+        k: u32,
+        before: &[u64],
+        before_words: &[u64],
+        packet: &[u64],
+        words: &[u64],
+        replies: &mut Vec<Reply>,
+    )
         requires which { k < length (asks_of self.now) }
         requires before { before.now ≡ [] ⊎ IsPacket before.now }
         requires packet { IsPacket packet.now }
+        requires words { length words.now ≤ 512 }
         requires room { vec_len replies.old < vec_capacity replies.old }
-        ensures told { (a : OneWant) → slice_get (asks_of self.now) k ≡ Some a → replies.new.items ≡ replies.old.items ++ listed ((format_of self.now.kind).result a (packet_in before.now) packet.now) }
+        ensures told { (a : OneWant) → slice_get (asks_of self.now) k ≡ Some a → replies.new.items ≡ replies.old.items ++ listed ((format_of self.now.kind).result a (item_in said_item before.now before_words.now) (said_item (item_of packet.now words.now))) }
         ensures one { vec_len replies.new ≤ vec_len replies.old + 1 }
         ensures capacity { vec_capacity replies.new ≡ vec_capacity replies.old }
     {
         if k >= count_starts(self.kind, self.sub, self.subs) {
-            keep_said(self.kind, before, packet, replies);
+            keep_said(self.kind, before, before_words, packet, words, replies);
         }
     }
 }
@@ -124,7 +143,7 @@ impl DeviceProtocol {
 #[tactic(auto, using(device_formats::proofs::FormatLaws::id_is))]
 fn id(kind: DeviceKind, packet: &[u64]) -> u64
     requires { IsPacket packet.now }
-    ensures { result ≡ (format_of kind).id_of packet.now }
+    ensures { (i : Item) → i.packet ≡ packet.now → result ≡ (format_of kind).id_of i }
 {
     packet[1]
 }
@@ -192,14 +211,15 @@ fn step_at(subs: u32, k: u32) -> u32
     if k == 4 { 3 + subs } else { k }
 }
 
-/// Writes the k-th packet of the start-up under an id: its words.
+/// Writes the k-th packet of the start-up under an id: its words. It lends no page.
 fn encode_start(kind: DeviceKind, sub: u32, subs: u32, k: u32, id: u64, out: &mut [u64]) -> usize
     requires some { k < length (startup kind sub subs) }
     requires subs { subs ≤ 3 }
     requires out { length out.old ≡ 384 }
-    ensures packet { take result out.new ≡ encode_on kind id (Starts (step_at subs k)) }
+    ensures packet { bare_item (take result out.new) ≡ encode_on kind id (Starts (step_at subs k)) }
     ensures is_packet { IsPacket (take result out.new) }
     ensures most { result ≤ 384 }
+    ensures none { lends_on kind ≡ true → words_lent (take result out.new) ≡ 0 }
 {
     match kind {
         DeviceKind::Beat | DeviceKind::Down => write_negotiate(kind, id, out),
@@ -252,29 +272,34 @@ fn disk_reply(reply: &Reply) -> &DiskReply
     reply
 }
 
-/// Writes the packet that asks this under an id: its words.
-fn encode_ask(kind: DeviceKind, ask: &Ask, id: u64, out: &mut [u64]) -> usize
+/// Writes the packet that asks this under an id, and its page words.
+fn encode_ask(kind: DeviceKind, ask: &Ask, id: u64, out: &mut [u64], page: &mut [u64]) -> Written
     requires can { IsAskable kind ask.now }
+    requires id { lends_on kind ≡ true → id ≤ 64 }
     requires out { length out.old ≡ 384 }
-    ensures packet { take result out.new ≡ encode_on kind id (Script ask.now) }
-    ensures is_packet { IsPacket (take result out.new) }
-    ensures most { result ≤ 384 }
+    requires page { length page.old ≡ 512 }
+    ensures value { (i : Item) → Lays (take result.packet out.new) (take result.words page.new) result.lent i → said_item i ≡ encode_on kind id (Script ask.now) }
+    ensures is_packet { IsPacket (take result.packet out.new) }
+    ensures most { IsWritten result }
+    ensures lent { lends_on kind ≡ true → result.lent ≡ words_lent (take result.packet out.new) }
+    ensures none { lends_on kind ≡ false → result.lent ≡ 0 }
+    ensures page { length page.new ≡ 512 }
 {
     match kind {
-        DeviceKind::Beat | DeviceKind::Down => write_ask(ic_request(ask), id, out),
-        DeviceKind::Disk => write_disk_ask(disk_request(ask), id, out),
-        DeviceKind::Net => write_net_ask(net_request(ask), id, out),
+        DeviceKind::Beat | DeviceKind::Down => Written::bare(write_ask(ic_request(ask), id, out)),
+        DeviceKind::Disk => write_page_ask(disk_request(ask), id, out, page),
+        DeviceKind::Net => Written::bare(write_net_ask(net_request(ask), id, out)),
     }
 }
 
 /// Whether a packet is a request that has an answer.
 fn waits(kind: DeviceKind, packet: &[u64]) -> bool
     requires { IsPacket packet.now }
-    ensures { result ≡ ((format_of kind).is_request packet.now && waits_on kind packet.now) }
+    ensures { (i : Item) → i.packet ≡ packet.now → result ≡ ((format_of kind).is_request i && waits_on kind i) }
 {
     match kind {
         DeviceKind::Beat | DeviceKind::Down => is_inband(packet),
-        DeviceKind::Disk => is_disk_request(packet),
+        DeviceKind::Disk => is_page_request(packet),
         DeviceKind::Net => is_net_request(packet),
     }
 }
@@ -287,13 +312,14 @@ fn plain(asks: bool) -> Option<Head>
 }
 
 /// Decodes a packet that asks the device: of a disk's, its storage packet.
-fn head(kind: DeviceKind, packet: &[u64]) -> Option<Head>
-    requires { IsPacket packet.now }
-    ensures { MatchOption result (read_on kind packet.now ≡ None) (λ h. IsSome (read_on kind packet.now) × IsHead kind packet.now h) }
+fn head(kind: DeviceKind, packet: &[u64], words: &[u64]) -> Option<Head>
+    requires packet { IsPacket packet.now }
+    requires words { length words.now ≤ 512 }
+    ensures { MatchOption result (read_on kind (said_item (item_of packet.now words.now)) ≡ None) (λ h. IsSome (read_on kind (said_item (item_of packet.now words.now))) × IsHead kind packet.now h) }
 {
     match kind {
         DeviceKind::Beat | DeviceKind::Down => plain(asks_service(kind, packet)),
-        DeviceKind::Disk => match disk_head(packet) {
+        DeviceKind::Disk => match page_head(packet, words) {
             Some(v) => Some(Head::Srb(v)),
             None => None,
         },
@@ -311,54 +337,69 @@ fn srb(head: &Head) -> &Vstor
 }
 
 /// What a packet with this head asks of the device.
-fn read(kind: DeviceKind, packet: &[u64], head: &Head) -> Ask
+fn read(kind: DeviceKind, packet: &[u64], words: &[u64], head: &Head) -> Ask
     requires packet { IsPacket packet.now }
+    requires words { length words.now ≤ 512 }
     requires head { IsHead kind packet.now head.now }
-    requires asks { IsSome (read_on kind packet.now) }
-    ensures { read_on kind packet.now ≡ Some result }
+    requires asks { IsSome (read_on kind (said_item (item_of packet.now words.now))) }
+    ensures { read_on kind (said_item (item_of packet.now words.now)) ≡ Some result }
 {
     match kind {
         DeviceKind::Beat | DeviceKind::Down => Ask::Ic(read_service(kind, packet)),
-        DeviceKind::Disk => Ask::Disk(read_disk(packet, srb(head))),
+        DeviceKind::Disk => Ask::Disk(read_page(packet, words, srb(head))),
         DeviceKind::Net => Ask::Net(read_net(packet)),
     }
 }
 
-/// Writes the answer to a request that asks nothing of the device, if the packet is one: its words.
-fn write_fixed_on(kind: DeviceKind, packet: &[u64], out: &mut [u64]) -> usize
+/// Writes the answer to a request that asks nothing of the device, if the packet is one: its words. Nothing of a page that goes back with it is read.
+fn write_fixed_on(kind: DeviceKind, packet: &[u64], words: &[u64], out: &mut [u64]) -> usize
     requires packet { IsPacket packet.now }
+    requires words { length words.now ≤ 512 }
     requires out { length out.old ≡ 384 }
-    ensures value { listed_packet (take result out.new) ≡ listed (answer_in ((format_of kind).fixed packet.now)) }
+    ensures value { LaysSome said_item (take result out.new) [] 0 (answer_in ((format_of kind).fixed (said_item (item_of packet.now words.now)))) }
+    ensures back { lends_on kind ≡ true → (n : ℕ) → LaysSome said_item (take result out.new) [] n (answer_in ((format_of kind).fixed (said_item (item_of packet.now words.now)))) }
     ensures written { 0 < result → IsPacket (take result out.new) }
     ensures most { result ≤ 384 }
 {
     match kind {
         DeviceKind::Beat | DeviceKind::Down => write_service_fixed(kind, packet, out),
-        DeviceKind::Disk => write_disk_fixed(packet, out),
+        DeviceKind::Disk => write_page_fixed(packet, words, out),
         DeviceKind::Net => write_net_fixed(packet, out),
     }
 }
 
-/// Writes the answer with the device's reply: its words.
+/// Writes the answer with the device's reply, and its page words.
 fn write_answer_on(
     kind: DeviceKind,
     packet: &[u64],
+    words: &[u64],
     head: &Head,
     reply: &Reply,
     out: &mut [u64],
-) -> usize
+    page: &mut [u64],
+) -> Written
     requires packet { IsPacket packet.now }
+    requires words { length words.now ≤ 512 }
     requires head { IsHead kind packet.now head.now }
-    requires fits { (q : OneAsk) × (read_on kind packet.now ≡ Some q) × (fits_on kind q reply.now ≡ true) }
+    requires fits { (q : OneAsk) × (read_on kind (said_item (item_of packet.now words.now)) ≡ Some q) × (fits_on kind q reply.now ≡ true) }
     requires out { length out.old ≡ 384 }
-    ensures packet { take result out.new ≡ answer_on kind packet.now reply.now }
-    ensures is_packet { IsPacket (take result out.new) }
-    ensures most { result ≤ 384 }
+    requires page { length page.old ≡ 512 }
+    ensures value { (i : Item) → Lays (take result.packet out.new) (take result.words page.new) result.lent i → said_item i ≡ answer_on kind (said_item (item_of packet.now words.now)) reply.now }
+    ensures back { lends_on kind ≡ true → (n : ℕ) (i : Item) → result.lent ≤ n → Lays (take result.packet out.new) (take result.words page.new) n i → said_item i ≡ answer_on kind (said_item (item_of packet.now words.now)) reply.now }
+    ensures is_packet { IsPacket (take result.packet out.new) }
+    ensures most { IsWritten result }
+    ensures within { result.lent ≤ length (said_item (item_of packet.now words.now)).words }
+    ensures none { lends_on kind ≡ false → result.lent ≡ 0 }
+    ensures page { length page.new ≡ 512 }
 {
     match kind {
-        DeviceKind::Beat | DeviceKind::Down => write_service_answer(kind, packet, out),
-        DeviceKind::Disk => write_disk_answer(packet, srb(head), disk_reply(reply), out),
-        DeviceKind::Net => write_done(packet[1], net_status(reply), out),
+        DeviceKind::Beat | DeviceKind::Down => {
+            Written::bare(write_service_answer(kind, packet, out))
+        }
+        DeviceKind::Disk => {
+            write_page_answer(packet, words, srb(head), disk_reply(reply), out, page)
+        }
+        DeviceKind::Net => Written::bare(write_done(packet[1], net_status(reply), out)),
     }
 }
 
@@ -373,7 +414,7 @@ fn is_type(packet: &[u64], kind: u64) -> bool
 /// Whether a packet of the end that asks acknowledges a message.
 fn is_ack(kind: DeviceKind, packet: &[u64]) -> bool
     requires { IsPacket packet.now }
-    ensures { result ≡ (format_of kind).is_ack packet.now }
+    ensures { (i : Item) → i.packet ≡ packet.now → result ≡ (format_of kind).is_ack i }
 {
     match kind {
         DeviceKind::Beat | DeviceKind::Down | DeviceKind::Disk => false,
@@ -384,18 +425,18 @@ fn is_ack(kind: DeviceKind, packet: &[u64]) -> bool
 /// Whether a packet of the end that serves is an answer.
 fn is_answer(kind: DeviceKind, packet: &[u64]) -> bool
     requires { IsPacket packet.now }
-    ensures { result ≡ (format_of kind).is_answer packet.now }
+    ensures { (i : Item) → i.packet ≡ packet.now → result ≡ (format_of kind).is_answer i }
 {
     match kind {
-        DeviceKind::Beat | DeviceKind::Down | DeviceKind::Disk => true,
-        DeviceKind::Net => is_type(packet, COMPLETION),
+        DeviceKind::Beat | DeviceKind::Down => true,
+        DeviceKind::Disk | DeviceKind::Net => is_type(packet, COMPLETION),
     }
 }
 
 /// Whether a packet of the end that serves is a message.
 fn is_message(kind: DeviceKind, packet: &[u64]) -> bool
     requires { IsPacket packet.now }
-    ensures { result ≡ (format_of kind).is_message packet.now }
+    ensures { (i : Item) → i.packet ≡ packet.now → result ≡ (format_of kind).is_message i }
 {
     match kind {
         DeviceKind::Beat | DeviceKind::Down | DeviceKind::Disk => false,
@@ -407,8 +448,9 @@ fn is_message(kind: DeviceKind, packet: &[u64]) -> bool
 fn write_ack_on(kind: DeviceKind, packet: &[u64], out: &mut [u64]) -> usize
     requires packet { IsPacket packet.now }
     requires out { length out.old ≡ 384 }
-    ensures value { (format_of kind).is_message packet.now ≡ true → take result out.new ≡ (format_of kind).ack packet.now }
-    ensures written { (format_of kind).is_message packet.now ≡ true → IsPacket (take result out.new) }
+    ensures value { (i : Item) → i.packet ≡ packet.now → (format_of kind).is_message i ≡ true → bare_item (take result out.new) ≡ (format_of kind).ack i }
+    ensures none { lends_on kind ≡ true → (i : Item) → (format_of kind).is_message i ≡ false }
+    ensures written { (i : Item) → i.packet ≡ packet.now → (format_of kind).is_message i ≡ true → IsPacket (take result out.new) }
     ensures most { result ≤ 384 }
 {
     match kind {
@@ -421,7 +463,7 @@ fn write_ack_on(kind: DeviceKind, packet: &[u64], out: &mut [u64]) -> usize
 #[tactic(auto, using(device_formats::proofs::FormatLaws::none_fixed))]
 fn has_fixed_message_on(kind: DeviceKind, packet: &[u64]) -> bool
     requires { IsPacket packet.now }
-    ensures { result ≡ has_message_in ((format_of kind).fixed packet.now) }
+    ensures { (i : Item) → i.packet ≡ packet.now → result ≡ has_message_in ((format_of kind).fixed i) }
 {
     match kind {
         DeviceKind::Beat | DeviceKind::Down | DeviceKind::Disk => false,
@@ -430,11 +472,12 @@ fn has_fixed_message_on(kind: DeviceKind, packet: &[u64]) -> bool
 }
 
 /// Writes that message, if there is one, under an id of the serving end's own: its words.
-#[tactic(auto, using(device_formats::proofs::FormatLaws::none_fixed_in))]
+#[tactic(auto, using(device_formats::proofs::FormatLaws::none_fixed_in, crate::proofs::BareLaws::none_so))]
 fn write_fixed_message_on(kind: DeviceKind, packet: &[u64], own: u64, out: &mut [u64]) -> usize
     requires packet { IsPacket packet.now }
     requires out { length out.old ≡ 384 }
-    ensures value { listed_packet (take result out.new) ≡ listed (message_in own ((format_of kind).fixed packet.now)) }
+    ensures value { (i : Item) → i.packet ≡ packet.now → LaysSome said_item (take result out.new) [] 0 (message_in own ((format_of kind).fixed i)) }
+    ensures none { lends_on kind ≡ true → result ≡ 0 }
     ensures written { 0 < result → IsPacket (take result out.new) }
     ensures most { result ≤ 384 }
 {
@@ -478,8 +521,8 @@ fn net_status(reply: &Reply) -> u32
 }
 
 /// Whether a message goes back with a reply besides the answer.
-fn has_message_on(kind: DeviceKind, packet: &[u64], reply: &Reply) -> bool
-    ensures { result ≡ is_some ((format_of kind).gives packet.now reply.now).message }
+fn has_message_on(kind: DeviceKind, reply: &Reply) -> bool
+    ensures { (i : Item) → result ≡ is_some ((format_of kind).gives i reply.now).message }
 {
     match kind {
         DeviceKind::Beat | DeviceKind::Down | DeviceKind::Disk => false,
@@ -488,15 +531,10 @@ fn has_message_on(kind: DeviceKind, packet: &[u64], reply: &Reply) -> bool
 }
 
 /// Writes that message, if there is one, under an id of the serving end's own: its words.
-fn write_message_on(
-    kind: DeviceKind,
-    packet: &[u64],
-    reply: &Reply,
-    own: u64,
-    out: &mut [u64],
-) -> usize
+fn write_message_on(kind: DeviceKind, reply: &Reply, own: u64, out: &mut [u64]) -> usize
     requires out { length out.old ≡ 384 }
-    ensures value { listed_packet (take result out.new) ≡ listed (under_own own ((format_of kind).gives packet.now reply.now).message) }
+    ensures value { (i : Item) → LaysSome said_item (take result out.new) [] 0 (under_own own ((format_of kind).gives i reply.now).message) }
+    ensures none { lends_on kind ≡ true → result ≡ 0 }
     ensures written { 0 < result → IsPacket (take result out.new) }
     ensures most { result ≤ 384 }
 {
@@ -507,30 +545,40 @@ fn write_message_on(
 }
 
 /// Puts what an answer says at the end of the replies, with the message that came just before it, where one did.
-fn keep_said(kind: DeviceKind, before: &[u64], packet: &[u64], replies: &mut Vec<Reply>)
+fn keep_said(
+    kind: DeviceKind,
+    before: &[u64],
+    before_words: &[u64],
+    packet: &[u64],
+    words: &[u64],
+    replies: &mut Vec<Reply>,
+)
     requires before { before.now ≡ [] ⊎ IsPacket before.now }
     requires packet { IsPacket packet.now }
+    requires words { length words.now ≤ 512 }
     requires room { vec_len replies.old < vec_capacity replies.old }
-    ensures told { replies.new.items ≡ replies.old.items ++ listed (said_on kind (packet_in before.now) packet.now) }
+    ensures told { replies.new.items ≡ replies.old.items ++ listed (said_on kind (item_in said_item before.now before_words.now) (said_item (item_of packet.now words.now))) }
     ensures one { vec_len replies.new ≤ vec_len replies.old + 1 }
     ensures capacity { vec_capacity replies.new ≡ vec_capacity replies.old }
 {
     match kind {
         DeviceKind::Beat | DeviceKind::Down => keep_service_said(kind, packet, replies),
-        DeviceKind::Disk => keep_disk_said(packet, replies),
+        DeviceKind::Disk => keep_page_said(packet, words, replies),
         DeviceKind::Net => keep_net_said(before, packet, replies),
     }
 }
 
 impl Protocol for DeviceProtocol {
-    ghost use Rattle.std.specs.Prelude.{false, length, map};
+    ghost use Rattle.std.specs.Prelude.{length, map};
     ghost use Rattle.std.proofs.Common.{refl};
-    ghost use Rattle.device_formats.specs.Formats.{besides_on};
-    ghost use Rattle.device_formats.specs.ItemFormats.{item_format};
+    ghost use Rattle.device_formats.specs.Formats.{besides_on, lends_on, format_of};
+    ghost use Rattle.device_formats.specs.Items.{said_item};
     ghost use Rattle.device_formats.specs.ChannelScript.{asks_of};
     ghost use Rattle.device_formats.specs.Wants.{startup};
     ghost use Rattle.device_formats.specs.declared.want.Want.TheVariants.{Script};
-    ghost use Rattle.device_formats.proofs.ItemFormatLaws.{keeps_items, may_items, none_lends, said_all};
+    ghost use Rattle.device_formats.proofs.FormatLaws.{keeps as keeps_on, may_have};
+    ghost use Rattle.device_formats.proofs.PageFormatLaws.{pages_kept, said_few as few_said};
+    ghost use Rattle.device_formats.proofs.SaidLaws.{said_bare as bare_said};
     ghost use Rattle.device_formats.proofs.ChannelScriptLaws.{starts_within};
     ghost use Rattle.device_protocols.specs.Heads.{IsHead};
 
@@ -544,25 +592,25 @@ impl Protocol for DeviceProtocol {
 
     ghost is_head = { λ s i h. IsHead s.kind i.packet h };
 
-    ghost said = { λ i. i };
+    ghost said = { λ i. said_item i };
 
     ghost said_packet = { λ i. refl };
 
-    ghost said_few = { λ i. said_all i };
+    ghost said_few = { λ i. few_said i };
 
-    ghost said_bare = { λ p. refl };
+    ghost said_bare = { λ p. bare_said p };
 
-    ghost format = { λ s. item_format s.kind };
+    ghost format = { λ s. format_of s.kind };
 
-    ghost lends = { λ s. false };
+    ghost lends = { λ s. lends_on s.kind };
 
-    ghost paged = { λ s e. none_lends s.kind e };
+    ghost paged = { λ s e. pages_kept s.kind e };
 
-    ghost keeps = { λ s. keeps_items s.kind };
+    ghost keeps = { λ s. keeps_on s.kind };
 
     ghost besides = { λ s. besides_on s.kind };
 
-    ghost may = { λ s. may_items s.kind };
+    ghost may = { λ s. may_have s.kind };
 
     ghost asks = { asks_of };
 
@@ -590,8 +638,8 @@ impl Protocol for DeviceProtocol {
         true
     }
 
-    fn encode(&self, k: u32, id: u64, out: &mut [u64], _page: &mut [u64]) -> Written {
-        Written::bare(self.write_ask(k, id, out))
+    fn encode(&self, k: u32, id: u64, out: &mut [u64], page: &mut [u64]) -> Written {
+        self.write_ask(k, id, out, page)
     }
 
     fn id(&self, packet: &[u64]) -> u64 {
@@ -618,12 +666,12 @@ impl Protocol for DeviceProtocol {
         write_ack_on(self.kind, packet, out)
     }
 
-    fn head(&self, packet: &[u64], _words: &[u64]) -> Option<Head> {
-        head(self.kind, packet)
+    fn head(&self, packet: &[u64], words: &[u64]) -> Option<Head> {
+        head(self.kind, packet, words)
     }
 
-    fn read(&self, packet: &[u64], _words: &[u64], head: &Head) -> Ask {
-        read(self.kind, packet, head)
+    fn read(&self, packet: &[u64], words: &[u64], head: &Head) -> Ask {
+        read(self.kind, packet, words, head)
     }
 
     fn has_fixed_message(&self, packet: &[u64], _words: &[u64]) -> bool {
@@ -641,47 +689,47 @@ impl Protocol for DeviceProtocol {
         Written::bare(write_fixed_message_on(self.kind, packet, own, out))
     }
 
-    fn write_fixed(&self, packet: &[u64], _words: &[u64], out: &mut [u64]) -> usize {
-        write_fixed_on(self.kind, packet, out)
+    fn write_fixed(&self, packet: &[u64], words: &[u64], out: &mut [u64]) -> usize {
+        write_fixed_on(self.kind, packet, words, out)
     }
 
-    fn has_message(&self, packet: &[u64], _words: &[u64], reply: &Reply) -> bool {
-        has_message_on(self.kind, packet, reply)
+    fn has_message(&self, _packet: &[u64], _words: &[u64], reply: &Reply) -> bool {
+        has_message_on(self.kind, reply)
     }
 
     fn write_message(
         &self,
-        packet: &[u64],
+        _packet: &[u64],
         _words: &[u64],
         reply: &Reply,
         own: u64,
         out: &mut [u64],
         _page: &mut [u64],
     ) -> Written {
-        Written::bare(write_message_on(self.kind, packet, reply, own, out))
+        Written::bare(write_message_on(self.kind, reply, own, out))
     }
 
     fn write_answer(
         &self,
         packet: &[u64],
-        _words: &[u64],
+        words: &[u64],
         head: &Head,
         reply: &Reply,
         out: &mut [u64],
-        _page: &mut [u64],
+        page: &mut [u64],
     ) -> Written {
-        Written::bare(write_answer_on(self.kind, packet, head, reply, out))
+        write_answer_on(self.kind, packet, words, head, reply, out, page)
     }
 
     fn keep_result(
         &self,
         k: u32,
         before: &[u64],
-        _before_words: &[u64],
+        before_words: &[u64],
         packet: &[u64],
-        _words: &[u64],
+        words: &[u64],
         replies: &mut Vec<Reply>,
     ) {
-        self.keep_answer(k, before, packet, replies);
+        self.keep_answer(k, before, before_words, packet, words, replies);
     }
 }

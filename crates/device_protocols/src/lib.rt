@@ -7,7 +7,7 @@ mod disks;
 mod head;
 mod nets;
 mod packets;
-pub mod page_disks;
+mod page_disks;
 mod services;
 
 pub use askable::is_askable;

@@ -1,5 +1,5 @@
 //! The bytes of a packet.
-ghost use Rattle.std.specs.Prelude.{◌≡◌, ◌≤◌, ◌+◌, length, take, drop};
+ghost use Rattle.std.specs.Prelude.{◌≡◌, ◌≤◌, ◌+◌, length, take};
 ghost use Rattle.ring_machine.specs.States.{IsPacket};
 ghost use Rattle.pkt_desc.specs.Packets.{payload_of};
 ghost use Rattle.device_formats.specs.Packets.{is_of, is_inband as inband, is_completion as completion, content_of};
@@ -76,18 +76,4 @@ pub(crate) fn content(packet: &[u64], bytes: &mut [u8]) -> usize
     let len = 8 * payload.len();
     bytes_of(payload, &mut bytes[..len]);
     len
-}
-
-/// The words of a packet's payload behind the first eight.
-pub(crate) fn words_behind(packet: &[u64]) -> &[u64]
-    requires { IsPacket packet.now }
-    ensures value { result.now ≡ drop 8 (payload_of packet.now) }
-    ensures few { length packet.now ≤ 384 → length result.now ≤ 374 }
-{
-    let payload = payload(packet);
-    if payload.len() < 8 {
-        return &[];
-    }
-    let (_, more) = payload.split_at(8);
-    more
 }

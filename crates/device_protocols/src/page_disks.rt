@@ -3,7 +3,7 @@
 //!
 //! A storage packet of 64 bytes is all that a packet carries. Source: Linux 6.12, `drivers/scsi/storvsc_drv.c`, storvsc_do_io; that a frame number is that of a page of
 //! the channel is this project's own.
-ghost use Rattle.std.specs.Prelude.{◌≡◌, ◌≤◌, ◌<◌, ◌+◌, ◌*◌, ◌++◌, ◌∷◌, ℕ, List, [], length, take, min, true, false, Some, None, IsSome, MatchOption, cond, is_none, is_some, nat_le, vec_len, vec_capacity, ◌==◌};
+ghost use Rattle.std.specs.Prelude.{◌≡◌, ◌≤◌, ◌<◌, ◌+◌, ◌*◌, ◌++◌, ◌∷◌, ℕ, List, [], length, take, min, true, false, Some, None, IsSome, MatchOption, is_none, is_some, nat_le, vec_len, vec_capacity, ◌==◌};
 ghost use Rattle.ring_machine.specs.States.{IsPacket};
 ghost use Rattle.vm_page.specs.Words.{words_for, words_of, bytes_in};
 ghost use Rattle.page_kept.specs.declared.item.Item.{Item};
@@ -24,7 +24,7 @@ ghost use Rattle.device_formats.specs.Kinds.{disks};
 ghost use Rattle.device_formats.specs.Disks.{vstor_of, back_of, disk_fits};
 ghost use Rattle.pkt_desc.specs.Packets.{kind_of};
 ghost use Rattle.device_formats.specs.Items.{came_in, came_with as came_of, said_item};
-ghost use Rattle.device_formats.specs.PageDisks.{page_codec, page_waits as waits, page_read as read_of, page_answer, page_result, page_ask, direct_packet, srb_asked, start_answer as start_of, page_fixed_vstor, bytes_of_ask, lacks_page as lacks_of, IsPageAsk};
+ghost use Rattle.device_formats.specs.PageDisks.{page_codec, page_waits as waits, page_read as read_of, page_answer, page_result, page_ask, direct_packet, srb_asked, silent_answer, page_fixed_vstor, bytes_of_ask, lacks_page as lacks_of, IsPageAsk};
 
 use crate::disks::{front, keep_bytes, spelled, write_done, write_sent};
 use crate::packets::{GPA_DIRECT, is_completion, is_direct, is_inband};
@@ -124,7 +124,12 @@ fn write_direct(id: u64, bytes: u32, v: &Vstor, out: &mut [u64]) -> usize
 }
 
 /// Writes the packet that asks the disk under an id, and a write's data as page words. A request that reads lends the words that may come, and stores none.
-pub fn write_page_ask(request: &DiskRequest, id: u64, out: &mut [u64], page: &mut [u64]) -> Written
+pub(crate) fn write_page_ask(
+    request: &DiskRequest,
+    id: u64,
+    out: &mut [u64],
+    page: &mut [u64],
+) -> Written
     requires can { IsPageAsk request.now }
     requires id { id ≤ 64 }
     requires out { length out.old ≡ 384 }
@@ -138,7 +143,7 @@ pub fn write_page_ask(request: &DiskRequest, id: u64, out: &mut [u64], page: &mu
     let bytes = bytes_asked(request);
     let v = srb_ask(request);
     if bytes == 0 {
-        return Written::bare(write_sent(id, &v, &[], out));
+        return Written::bare(write_sent(id, &v, out));
     }
     let packet = write_direct(id, bytes as u32, &v, out);
     let words = put_words(request.out.bytes(), page);
@@ -151,7 +156,7 @@ pub fn write_page_ask(request: &DiskRequest, id: u64, out: &mut [u64], page: &mu
 
 /// Whether a packet is a request with an answer: in-band or with ranges of pages, and it begins with a storage packet.
 #[tactic(auto, unfolding(device_formats::specs::PageDisks::page_waits))]
-pub fn is_page_request(packet: &[u64]) -> bool
+pub(crate) fn is_page_request(packet: &[u64]) -> bool
     requires { IsPacket packet.now }
     ensures value { (i : Item) → i.packet ≡ packet.now → result ≡ waits i }
 {
@@ -177,10 +182,10 @@ fn has_room(v: &Vstor, room: u64) -> bool
     ensures value { result ≡ nat_le (most_back (command_of (cdb_in v.now))) room }
 {
     match srb_command(v) {
-        Some(Command::Inquiry { .. }) => 36 <= room,
+        Some(Command::Inquiry { allocation, .. }) => allocation.min(36) <= room,
         Some(Command::ReadCapacity) => 8 <= room,
         Some(Command::Read { count, .. }) => count <= room / 512,
-        Some(Command::LongCapacity { .. }) => 32 <= room,
+        Some(Command::LongCapacity { allocation, .. }) => allocation.min(32) <= room,
         _ => true,
     }
 }
@@ -216,7 +221,7 @@ fn asks_disk(v: &Vstor, lacks: bool, room: u64) -> bool
 }
 
 /// The storage packet of a packet that asks the disk. No page word is looked at.
-pub fn page_head(packet: &[u64], words: &[u64]) -> Option<Vstor>
+pub(crate) fn page_head(packet: &[u64], words: &[u64]) -> Option<Vstor>
     requires packet { IsPacket packet.now }
     requires words { length words.now ≤ 512 }
     ensures { MatchOption result (read_of (said_item (item_of packet.now words.now)) ≡ None) (λ v. IsSome (read_of (said_item (item_of packet.now words.now))) × (v ≡ vstor_of packet.now)) }
@@ -234,7 +239,7 @@ pub fn page_head(packet: &[u64], words: &[u64]) -> Option<Vstor>
 }
 
 /// What a packet with this storage packet asks of the disk. The page words of a write are its data; no others are looked at.
-pub fn read_page(packet: &[u64], words: &[u64], v: &Vstor) -> DiskRequest
+pub(crate) fn read_page(packet: &[u64], words: &[u64], v: &Vstor) -> DiskRequest
     requires packet { IsPacket packet.now }
     requires words { length words.now ≤ 512 }
     requires head { v.now ≡ vstor_of packet.now }
@@ -264,13 +269,13 @@ fn came_with(v: &Vstor) -> u64
     get_at(&v.rest, DATA_TRANSFER_LENGTH, 4)
 }
 
-/// The answer to a request of the start-up, with which so many bytes came. One that came with a page, and would be read as an srb that gave bytes, is refused.
-fn start_answer(answer: Vstor, room: u64) -> Vstor
+/// The answer to a request of the start-up. One that would be read as an srb that gave bytes is refused.
+fn start_answer(answer: Vstor) -> Vstor
     requires { IsAllowed answer }
-    ensures value { result ≡ start_of room answer }
+    ensures value { result ≡ silent_answer answer }
     ensures allowed { IsAllowed result }
 {
-    if room == 0 || came_with(&answer) == 0 {
+    if came_with(&answer) == 0 {
         return answer;
     }
     Vstor {
@@ -289,7 +294,7 @@ fn fixed(v: &Vstor, lacks: bool, room: u64) -> Option<Vstor>
         (λ w. IsAllowed w × ((came : List ℕ) → length came ≡ room → (is_none (srb_asked v.now lacks came) ≡ true) × (w ≡ page_fixed_vstor v.now lacks came))) }
 {
     if v.operation != 3 {
-        return Some(start_answer(answer(v), room));
+        return Some(start_answer(answer(v)));
     }
     match stopped(v, lacks, room) {
         Some(status) => Some(srb_stop(v, status)),
@@ -298,11 +303,11 @@ fn fixed(v: &Vstor, lacks: bool, room: u64) -> Option<Vstor>
 }
 
 /// Writes the answer to a request that asks nothing of the disk: its words. Nothing of the page that comes back with it is read.
-pub fn write_page_fixed(packet: &[u64], words: &[u64], out: &mut [u64]) -> usize
+pub(crate) fn write_page_fixed(packet: &[u64], words: &[u64], out: &mut [u64]) -> usize
     requires packet { IsPacket packet.now }
     requires words { length words.now ≤ 512 }
     requires out { length out.old ≡ 384 }
-    ensures value { (n : ℕ) → n ≤ length words.now → LaysSome said_item (take result out.new) [] n (answer_in (fixed_back page_codec (said_item (item_of packet.now words.now)))) }
+    ensures value { (n : ℕ) → LaysSome said_item (take result out.new) [] n (answer_in (fixed_back page_codec (said_item (item_of packet.now words.now)))) }
     ensures written { 0 < result → IsPacket (take result out.new) }
     ensures most { result ≤ 384 }
 {
@@ -312,7 +317,7 @@ pub fn write_page_fixed(packet: &[u64], words: &[u64], out: &mut [u64]) -> usize
     let Some(v) = front(packet) else { return 0 };
     let room = 8 * words.len() as u64;
     match fixed(&v, lacks_page(packet, words), room) {
-        Some(answer) => write_done(packet[1], &answer, &[], out),
+        Some(answer) => write_done(packet[1], &answer, out),
         None => 0,
     }
 }
@@ -328,7 +333,7 @@ fn back(reply: &DiskReply) -> &[u8]
 }
 
 /// Writes the answer with the disk's reply to a packet with this storage packet, and the bytes of the reply as page words.
-pub fn write_page_answer(
+pub(crate) fn write_page_answer(
     packet: &[u64],
     words: &[u64],
     v: &Vstor,
@@ -348,7 +353,7 @@ pub fn write_page_answer(
     ensures within { result.lent ≤ length (said_item (item_of packet.now words.now)).words }
     ensures page { length page.new ≡ 512 }
 {
-    let written = write_done(packet[1], &srb_reply(v, reply), &[], out);
+    let written = write_done(packet[1], &srb_reply(v, reply), out);
     let words = put_words(back(reply), page);
     Written {
         packet: written,
@@ -436,7 +441,7 @@ fn keep_end(end: Option<SrbEnd>, words: &[u64], replies: &mut Vec<Reply>)
 }
 
 /// Puts what a completion says at the end of the replies. Of the page words that came back with it those are read that came.
-pub fn keep_page_said(packet: &[u64], words: &[u64], replies: &mut Vec<Reply>)
+pub(crate) fn keep_page_said(packet: &[u64], words: &[u64], replies: &mut Vec<Reply>)
     requires packet { IsPacket packet.now }
     requires words { length words.now ≤ 512 }
     requires room { vec_len replies.old < vec_capacity replies.old }

@@ -1,11 +1,13 @@
 -- The packets of a run, as text.
-use Rattle.std.specs.Prelude.{ℕ, ◌/◌, ◌%◌, ◌==◌, List, [], ◌++◌, drop, slice_index_or, codes, if◌then◌else◌}
+use Rattle.std.specs.Prelude.{ℕ, ◌/◌, ◌%◌, ◌==◌, List, [], ◌++◌, drop, length, slice_index_or, codes, if◌then◌else◌}
 use Rattle.std.specs.Fmt.{decimal}
 use Rattle.std.specs.Int.{to_le_bytes, w64}
 use Rattle.std.specs.List.{flat_map}
 use Rattle.script_text.specs.Hex.{hex_2}
 use Rattle.io_edge.specs.declared.side.Side.{Side}
 use Rattle.io_edge.specs.declared.side.Side.TheVariants.{Guest, Host}
+use Rattle.page_kept.specs.declared.item.Item.{Item}
+use Rattle.bus_model.specs.Channel.{items_sent}
 use Rattle.bus_model.specs.declared.channel_run.ChannelRun.{ChannelRun}
 use Rattle.packet_text.specs.declared.form.Form.{Form}
 use Rattle.packet_text.specs.declared.form.Form.TheVariants.{Words, Dump}
@@ -38,31 +40,35 @@ origin_text from = (codes "phase " ++ decimal from.phase) ++ ((codes " relid " +
 abbrev pub descriptor_text : List ℕ → List ℕ
 descriptor_text p = kind_text (slice_index_or p 0 0 % 65536) ++ ((codes " id " ++ decimal (slice_index_or p 1 0)) ++ (codes " flags " ++ decimal (slice_index_or p 0 0 / 281474976710656)))
 
--- the bytes behind these two words, and the end of the line
-abbrev pub rest_text : List ℕ → List ℕ
-rest_text p = codes " bytes " ++ (hex_words [] (drop 2 p) ++ codes "\n")
+-- the bytes behind these two words
+abbrev pub payload_text : List ℕ → List ℕ
+payload_text p = codes " bytes " ++ hex_words [] (drop 2 p)
+
+-- the bytes of the page words that went along, if any did
+abbrev pub page_text : List ℕ → List ℕ
+page_text ws = if length ws == 0 then [] else codes " page " ++ hex_words [] ws
 
 -- a packet in words
-abbrev pub words_line : Origin → List ℕ → List ℕ
-words_line from p = origin_text from ++ (descriptor_text p ++ rest_text p)
+abbrev pub words_line : Origin → Item → List ℕ
+words_line from i = origin_text from ++ (descriptor_text i.packet ++ (payload_text i.packet ++ (page_text i.words ++ codes "\n")))
 
--- a packet as text2pcap reads it: its place, 000000, and each of its bytes
+-- a packet as text2pcap reads it: its place, 000000, and each of its bytes. Page words are no part of a packet
 abbrev pub dump_line : List ℕ → List ℕ
 dump_line p = codes "000000" ++ (hex_words (codes " ") p ++ codes "\n")
 
-abbrev pub line_of : Form → Origin → List ℕ → List ℕ
-line_of Words from p = words_line from p
-line_of Dump from p = dump_line p
+abbrev pub line_of : Form → Origin → Item → List ℕ
+line_of Words from i = words_line from i
+line_of Dump from i = dump_line i.packet
 
 -- a line for each of these packets, in order
-abbrev pub lines_of : Form → Origin → List (List ℕ) → List ℕ
-lines_of form from packets = flat_map (line_of form from) packets
+abbrev pub lines_of : Form → Origin → List Item → List ℕ
+lines_of form from items = flat_map (line_of form from) items
 
 -- what the guest sent on a channel, and then what the host sent
 abbrev pub channel_text : Form → ChannelRun → List ℕ
 channel_text form c =
-    lines_of form (record { phase = c.phase; relid = c.relid; side = Guest }) c.settled.guest_sent
-    ++ lines_of form (record { phase = c.phase; relid = c.relid; side = Host }) c.settled.host_sent
+    lines_of form (record { phase = c.phase; relid = c.relid; side = Guest }) (items_sent Guest c.settled)
+    ++ lines_of form (record { phase = c.phase; relid = c.relid; side = Host }) (items_sent Host c.settled)
 
 -- the channels of a run, in order
 abbrev pub packets_text : Form → List ChannelRun → List ℕ

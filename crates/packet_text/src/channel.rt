@@ -1,5 +1,8 @@
 //! The packets of the channels of a run.
 ghost use Rattle.std.specs.Prelude.{◌≡◌, ◌++◌, IfOk, OnOk};
+ghost use Rattle.page_kept.specs.Items.{item_of};
+ghost use Rattle.ring_core.specs.Pages.{items_of as kept_items};
+ghost use Rattle.bus_model.specs.Channel.{items_of};
 ghost use Rattle.packet_text.specs.Lines.{channel_text, line_of, lines_of, packets_text};
 
 use crate::Form;
@@ -14,11 +17,12 @@ fn push_packet(
     form: Form,
     from: Origin,
     packet: &[u64],
+    words: &[u64],
 ) -> Result<(), AllocError>
-    ensures { OnOk result (text.new.items ≡ text.old.items ++ line_of form from packet.now) }
+    ensures { OnOk result (text.new.items ≡ text.old.items ++ line_of form from (item_of packet.now words.now)) }
 {
     match form {
-        Form::Words => push_in_words(text, from, packet),
+        Form::Words => push_in_words(text, from, packet, words),
         Form::Dump => push_dump(text, packet),
     }
 }
@@ -29,13 +33,13 @@ fn push_list(
     from: Origin,
     packets: &Packets,
 ) -> Result<(), AllocError>
-    ensures { OnOk result (text.new.items ≡ text.old.items ++ lines_of form from packets.now.list) }
+    ensures { OnOk result (text.new.items ≡ text.old.items ++ lines_of form from (items_of packets.now.list (kept_items packets.now.list packets.now.lent))) }
 {
     for i in 0..packets.len() {
-        let Some(packet) = packets.get(i) else {
+        let (Some(packet), Some(words)) = (packets.get(i), packets.lent(i)) else {
             unreachable!()
         };
-        push_packet(text, form, from, packet)?;
+        push_packet(text, form, from, packet, words)?;
     }
     Ok(())
 }
@@ -57,7 +61,7 @@ fn push_channel(text: &mut Vec<u8>, form: Form, channel: &ChannelRun) -> Result<
     Ok(())
 }
 
-/// The packets of channels as text: channel by channel, those that the guest sent and then those that the host sent, each in order, a line for each. The refusal is want of memory.
+/// The packets of channels as text: channel by channel, those that the guest sent and then those that the host sent, each in order, a line for each. In words it has the page words that went along too. The refusal is want of memory.
 pub fn packets_text(
     alloc: Global,
     form: Form,

@@ -1,7 +1,8 @@
 //! One packet.
 ghost use Rattle.std.specs.Prelude.{◌≡◌, ◌++◌, OnOk, drop, slice_index_or};
 ghost use Rattle.std.specs.Fmt.{decimal};
-ghost use Rattle.packet_text.specs.Lines.{descriptor_text, dump_line, hex_word, hex_words, kind_text, origin_text, rest_text, side_text, words_line};
+ghost use Rattle.page_kept.specs.Items.{item_of};
+ghost use Rattle.packet_text.specs.Lines.{descriptor_text, dump_line, hex_word, hex_words, kind_text, origin_text, page_text, payload_text, side_text, words_line};
 
 use io_edge::Side;
 use script_text::{hex_2, push_decimal};
@@ -110,27 +111,40 @@ fn push_descriptor(text: &mut Vec<u8>, packet: &[u64]) -> Result<(), AllocError>
     Ok(())
 }
 
-// The bytes behind these two words, and the end of the line.
-fn push_rest(text: &mut Vec<u8>, packet: &[u64]) -> Result<(), AllocError>
-    ensures { OnOk result (text.new.items ≡ text.old.items ++ rest_text packet.now) }
+// The bytes behind these two words.
+fn push_payload(text: &mut Vec<u8>, packet: &[u64]) -> Result<(), AllocError>
+    ensures { OnOk result (text.new.items ≡ text.old.items ++ payload_text packet.now) }
 {
     text.extend_from_slice(b" bytes ")?;
     push_words(text, payload(packet), b"")?;
-    text.extend_from_slice(b"\n")?;
     Ok(())
 }
 
-/// A packet in words.
+// The bytes of the page words that went along, if any did.
+fn push_page(text: &mut Vec<u8>, words: &[u64]) -> Result<(), AllocError>
+    ensures { OnOk result (text.new.items ≡ text.old.items ++ page_text words.now) }
+{
+    if !words.is_empty() {
+        text.extend_from_slice(b" page ")?;
+        push_words(text, words, b"")?;
+    }
+    Ok(())
+}
+
+/// A packet in words, with the page words that went along.
 pub(crate) fn push_in_words(
     text: &mut Vec<u8>,
     from: Origin,
     packet: &[u64],
+    words: &[u64],
 ) -> Result<(), AllocError>
-    ensures { OnOk result (text.new.items ≡ text.old.items ++ words_line from packet.now) }
+    ensures { OnOk result (text.new.items ≡ text.old.items ++ words_line from (item_of packet.now words.now)) }
 {
     push_origin(text, from)?;
     push_descriptor(text, packet)?;
-    push_rest(text, packet)?;
+    push_payload(text, packet)?;
+    push_page(text, words)?;
+    text.extend_from_slice(b"\n")?;
     Ok(())
 }
 

@@ -64,9 +64,9 @@ impl Row {
             Row::Capacity => b"capacity NAME",
             Row::LongCapacity => b"capacity16 NAME",
             Row::Flush => b"flush NAME",
-            Row::Read => b"read NAME LBA COUNT: LBA is 0 to 18446744073709551615, COUNT 0 to 4",
+            Row::Read => b"read NAME LBA COUNT: LBA is 0 to 18446744073709551615, COUNT 0 to 8",
             Row::Write =>
-                b"write NAME LBA COUNT HH: LBA is 0 to 18446744073709551615, COUNT 0 to 4, HH two hexadecimal digits",
+                b"write NAME LBA COUNT HH: LBA is 0 to 18446744073709551615, COUNT 0 to 8, HH two hexadecimal digits",
             Row::Beat => b"beat NAME SEQ: SEQ is 0 to 18446744073709551615",
             Row::Down => b"down NAME FLAGS: FLAGS is 0 to 4294967295",
             Row::Query => b"query NAME OID: OID is 0x and 8 hexadecimal digits",

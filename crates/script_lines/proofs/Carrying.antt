@@ -89,7 +89,7 @@ or_zero_small : (o : Option ℕ) (n : ℕ) → 0 < n → IfSome o (λ m. m < n) 
 or_zero_small None n some small = some
 or_zero_small (Some m) n some small = small
 
-or_zero_few : (o : Option ℕ) → IfSome o (λ m. m ≤ 4) → unwrap_or o 0 ≤ 4
+or_zero_few : (o : Option ℕ) → IfSome o (λ m. m ≤ 8) → unwrap_or o 0 ≤ 8
 or_zero_few None few = omega arith
 or_zero_few (Some m) few = few
 
@@ -107,11 +107,11 @@ some_command : (o : Option Command) (c : Command) → o ≡ Some c → IsSome o
 some_command o c is = ap is_some is
 
 -- a command that writes nothing, with no data
-unwritten : (ask : DiskAsk) (c : Command) → command_of (cdb_of ask) ≡ Some c → length (cdb_of ask) ≡ 16 → (request_of ask).out ≡ [] → most_moved (Some c) ≤ 2048 → bytes_written (Some c) ≡ 0 → CanBeCarried (request_of ask)
+unwritten : (ask : DiskAsk) (c : Command) → command_of (cdb_of ask) ≡ Some c → length (cdb_of ask) ≡ 16 → (request_of ask).out ≡ [] → most_moved (Some c) ≤ 4096 → bytes_written (Some c) ≡ 0 → CanBeCarried (request_of ask)
 unwritten ask c is long empty few none = record {
   bytes = long;
   built = some_command _ c is;
-  moves = subst (λ o. most_moved o ≤ 2048) (sym is) few;
+  moves = subst (λ o. most_moved o ≤ 4096) (sym is) few;
   writes = ap length empty ∙ sym (ap bytes_written is ∙ none);
 }
 
@@ -133,6 +133,6 @@ asks_carried (Write (Some lba) (Some count) byte) holds range =
     record {
       bytes = moving_long 0x2a 0x8a lba count;
       built = some_command _ (IsWrite lba count) is;
-      moves = subst (λ o. most_moved o ≤ 2048) (sym is) (omega (arith, range.1));
+      moves = subst (λ o. most_moved o ≤ 4096) (sym is) (omega (arith, range.1));
       writes = length-replicate (512 * count) byte ∙ sym (ap bytes_written is);
     }

@@ -69,15 +69,15 @@ command_said Flush = SynchronizeCache
 command_said (Read lba count) = IsRead (unwrap_or lba 0) (unwrap_or count 0)
 command_said (Write lba count byte) = IsWrite (unwrap_or lba 0) (unwrap_or count 0)
 
--- its first block has a number of 64 bits, and it moves at most 4 blocks
+-- its first block has a number of 64 bits, and it moves at most 8 blocks
 abbrev pub AskInRange : DiskAsk → Type 0
 AskInRange Ready = Unit {0}
 AskInRange Inquiry = Unit {0}
 AskInRange Capacity = Unit {0}
 AskInRange LongCapacity = Unit {0}
 AskInRange Flush = Unit {0}
-AskInRange (Read lba count) = IfSome lba (λ n. n < 2 ^ 64) × IfSome count (λ n. n ≤ 4)
-AskInRange (Write lba count byte) = IfSome lba (λ n. n < 2 ^ 64) × IfSome count (λ n. n ≤ 4)
+AskInRange (Read lba count) = IfSome lba (λ n. n < 2 ^ 64) × IfSome count (λ n. n ≤ 8)
+AskInRange (Write lba count byte) = IfSome lba (λ n. n < 2 ^ 64) × IfSome count (λ n. n ≤ 8)
 
 -- a message that a line sends to an adapter: a query with no bytes of its own, a set of 1 to 64 bytes, a keepalive and a reset, or a frame of 14 to 1,514
 -- bytes. The packet that carries it gives it its request id
@@ -103,9 +103,9 @@ abbrev pub bytes_written : Option Command → ℕ
 bytes_written (Some (IsWrite lba count)) = 512 * count
 bytes_written _ = 0
 
--- a request that a disk's channel carries: a built command in 16 bytes, which moves at most 2,048 bytes, with the data that it writes
+-- a request that a disk's channel carries: a built command in 16 bytes, which moves at most 4,096 bytes, with the data that it writes
 pub record CanBeCarried (request : DiskRequest) : Type 0 where
   pub bytes : length request.cdb ≡ 16
   pub built : IsSome (command_of request.cdb)
-  pub moves : most_moved (command_of request.cdb) ≤ 2048
+  pub moves : most_moved (command_of request.cdb) ≤ 4096
   pub writes : length request.out ≡ bytes_written (command_of request.cdb)

@@ -84,7 +84,7 @@ plain_command ask others = option_map (λ name. Request name (Command ask)) (nam
 
 -- how many blocks a command moves
 abbrev pub count_in : Option ℕ → Option ℕ
-count_in number = within 0 4 number
+count_in number = within 0 8 number
 
 -- NAME LBA COUNT, behind read
 abbrev pub read_row : List (List ℕ) → Option Said

@@ -35,7 +35,7 @@ fn sixteen(code: u8, lba: u64, count: u32) -> [u8; 16]
 // A command that moves blocks, by its code in 10 and its code in 16 bytes: it has 10 where the number
 // of the first block fits into 32 bits, and else 16.
 fn moving(narrow: u8, wide: u8, lba: u64, count: u32) -> [u8; 16]
-    requires { count ≤ 4 }
+    requires { count ≤ 8 }
     ensures { result ≡ moving narrow wide lba count }
 {
     if lba < 1 << 32 {
@@ -79,10 +79,10 @@ fn inquiry_cdb() -> [u8; 16]
 
 // So many blocks of one byte.
 fn filled(count: u32, byte: u8) -> Chunk
-    requires { count ≤ 4 }
+    requires { count ≤ 8 }
     ensures { result ≡ filled count byte }
 {
-    let bytes = [byte; 2048];
+    let bytes = [byte; 4096];
     Chunk::of(&bytes[..512 * count as usize])
 }
 

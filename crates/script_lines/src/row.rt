@@ -333,7 +333,7 @@ fn read_row(rest: &[u8]) -> Option<Said>
     let (name, lba, count) = name_and_two(rest)?;
     let ask = DiskAsk::Read {
         lba,
-        count: within(0, 4, count),
+        count: within(0, 8, count),
     };
     Some(Said::Request(name, Asked::Command(ask)))
 }
@@ -345,7 +345,7 @@ fn write_of(name: &[u8], lba: &[u8], count: &[u8], byte: &[u8]) -> Option<Said>
     if is_name(name) && is_decimal(lba) && is_decimal(count) && is_byte(byte) {
         let ask = DiskAsk::Write {
             lba: number_of(lba),
-            count: within(0, 4, number_of(count)),
+            count: within(0, 8, number_of(count)),
             byte: byte_of(byte),
         };
         Some(Said::Request(Name::of(name), Asked::Command(ask)))

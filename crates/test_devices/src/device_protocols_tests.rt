@@ -76,7 +76,10 @@ fn starts(
     let len = protocol.write_fixed(packet, &[], &mut out);
     check(rt, len > 0);
     is_packet(rt, &out[..len], DONE, 40, back);
-    check(rt, said(rt, alloc, protocol, k, &[], &out[..len]).is_none());
+    check(
+        rt,
+        said(rt, alloc, protocol, k, &[], &out[..len], &[]).is_none(),
+    );
 }
 
 #[test]
@@ -150,38 +153,53 @@ fn disks_ask_for_sub_channels(rt: HostRuntime) -> Result<(), Fail> {
     Ok(())
 }
 
-/// What is asked of a disk under the id 77, and what the guest reads in the answer. The request's packet stays in `words`.
+/// What is asked of a disk under the id 7, and what the guest reads in the answer. The request's packet stays in `words`, and the words of its page in `page`: those that were put
+/// there for the request, with the answer's over them.
 fn disk_round(
     rt: &impl Abort,
     alloc: Global,
     disk: &mut Disk,
     protocol: &DeviceProtocol,
     words: &mut [u64],
+    page: &mut [u64],
 ) -> Option<Reply>
     requires kind { protocol.now.kind ≡ DiskKind }
     requires words { length words.old ≡ 384 }
+    requires page { length page.old ≡ 512 }
 {
     check(rt, (protocol.count(), protocol.starts()) == (5, 4));
     check(rt, protocol.has_answer(4));
-    let len = protocol.encode(4, 77, words, &mut [0; 512]).packet;
-    let packet = &words[..len];
-    check(rt, protocol.id(packet) == 77);
+    let asked = protocol.encode(4, 7, words, page);
+    let packet = &words[..asked.packet];
+    check(rt, protocol.id(packet) == 7);
     check(rt, protocol.is_waiting(packet));
-    let Some(head) = protocol.head(packet, &[]) else {
+    let mut answer = [0; 512];
+    let mut out = [0; 384];
+    let came = &page[..asked.lent];
+    let Some(head) = protocol.head(packet, came) else {
         panic!(rt; "nothing is asked")
     };
-    let asked = protocol.read(packet, &[], &head);
-    let Ask::Disk(request) = asked else {
+    let Ask::Disk(request) = protocol.read(packet, came, &head) else {
         panic!(rt; "no disk is asked")
     };
     let reply = Reply::Disk(disk.apply(&request));
-    let mut out = [0; 384];
-    check(rt, protocol.write_fixed(packet, &[], &mut out) == 0);
-    let back = protocol.write_answer(packet, &[], &head, &reply, &mut out, &mut [0; 512]);
-    let back = back.packet;
-    check(rt, back > 0);
-    check(rt, protocol.id(&out[..back]) == 77);
-    said(rt, alloc, protocol, 4, &[], &out[..back])
+    check(rt, protocol.write_fixed(packet, came, &mut out) == 0);
+    let back = protocol.write_answer(packet, came, &head, &reply, &mut out, &mut answer);
+    check(
+        rt,
+        back.packet == 10 && protocol.id(&out[..back.packet]) == 7,
+    );
+    check(rt, protocol.is_answer(&out[..back.packet]));
+    page[..back.words].copy_from_slice(&answer[..back.words]);
+    said(
+        rt,
+        alloc,
+        protocol,
+        4,
+        &[],
+        &out[..back.packet],
+        &page[..asked.lent],
+    )
 }
 
 /// A command for a disk with this data.
@@ -214,52 +232,103 @@ fn gives(
     disk: &mut Disk,
     protocol: &DeviceProtocol,
     words: &mut [u64],
+    page: &mut [u64],
     want: &[u8],
 )
     requires kind { protocol.now.kind ≡ DiskKind }
     requires words { length words.old ≡ 384 }
+    requires page { length page.old ≡ 512 }
 {
-    match disk_round(rt, alloc, disk, protocol, words) {
+    match disk_round(rt, alloc, disk, protocol, words, page) {
         Some(Reply::Disk(DiskReply::Good(back))) => check(rt, back.bytes() == want),
         _ => panic!(rt; "no good reply"),
     }
 }
 
-/// What the guest reads in the answer is the check of a block that can't be read.
+/// What the guest reads in the answer is the check of a block that can't be read, whatever stood in its page.
 fn fails(rt: &impl Abort, alloc: Global, disk: &mut Disk, protocol: &DeviceProtocol)
     requires { protocol.now.kind ≡ DiskKind }
 {
     let mut words = [0; 384];
-    match disk_round(rt, alloc, disk, protocol, &mut words) {
+    let mut page = [7; 512];
+    match disk_round(rt, alloc, disk, protocol, &mut words, &mut page) {
         Some(Reply::Disk(DiskReply::Check { key, asc, ascq })) => {
             check(rt, (key, asc, ascq) == (3, 0x11, 0));
         }
         _ => panic!(rt; "no check"),
     }
+    check(rt, page == [7; 512]);
 }
 
-/// A block is written.
+/// Wants a packet of type 9 that asks for a completion, of 13 words: one range of 512 bytes from the start of page 6, and a storage packet that begins with these bytes.
+fn is_direct(rt: &impl Abort, packet: &[u64], front: &[u8])
+    requires packet { length packet.now ≡ 384 }
+    requires front { length front.now ≤ 64 }
+{
+    check(rt, (packet[0], packet[1]) == (0x0001_000d_0005_0009, 7));
+    check(rt, (packet[2], packet[3], packet[4]) == (1 << 32, 512, 6));
+    let mut want = [0; 64];
+    want[..front.len()].copy_from_slice(front);
+    let mut bytes = [0; 64];
+    bytes_of(&packet[5..13], &mut bytes);
+    check(rt, bytes == want);
+}
+
+/// A block is written: its data stands in the page of its id, and nothing of it in the packet.
 fn writes(rt: &impl Abort, alloc: Global, disk: &mut Disk, protocol: &DeviceProtocol)
     requires { protocol.now.kind ≡ DiskKind }
 {
     let mut words = [0; 384];
-    gives(rt, alloc, disk, protocol, &mut words, &[]);
-    // 64 bytes and 512 of data are 72 words.
+    let mut page = [7; 512];
+    gives(rt, alloc, disk, protocol, &mut words, &mut page, &[]);
     let front = [
         3, 0, 0, 0, 1, 0, 0, 0, 0, 0, 0, 0, 52, 0, 0, 0, 0, 0, 0, 0, 10, 20, 0, 0, 0, 2, 0, 0,
         0x2a, 0, 0, 0, 0, 3, 0, 0, 1,
     ];
-    is_packet(rt, &words, 0x0001_004a_0002_0006, 77, &front);
-    check(rt, words[10] == 0x0909_0909_0909_0909);
-    check(rt, words[73] == 0x0909_0909_0909_0909);
+    is_direct(rt, &words, &front);
+    check(
+        rt,
+        (page[0], page[63]) == (0x0909_0909_0909_0909, 0x0909_0909_0909_0909),
+    );
+    check(rt, page[64] == 7);
 }
 
-/// The block that was written is read.
+/// The block that was written is read, whatever stood in its page.
 fn reads(rt: &impl Abort, alloc: Global, disk: &mut Disk, protocol: &DeviceProtocol)
     requires { protocol.now.kind ≡ DiskKind }
 {
     let mut words = [0; 384];
-    gives(rt, alloc, disk, protocol, &mut words, &[9; 512]);
+    let mut page = [7; 512];
+    gives(rt, alloc, disk, protocol, &mut words, &mut page, &[9; 512]);
+    let front = [
+        3, 0, 0, 0, 1, 0, 0, 0, 0, 0, 0, 0, 52, 0, 0, 0, 0, 0, 0, 0, 10, 20, 1, 0, 0, 2, 0, 0,
+        0x28, 0, 0, 0, 0, 3, 0, 0, 1,
+    ];
+    is_direct(rt, &words, &front);
+    check(rt, page[64] == 7);
+}
+
+/// A read that came with half of the page that it names, or without it, asks nothing of the disk, and is stopped with srb_status 4.
+#[test]
+fn a_read_asks_with_its_page_alone(rt: HostRuntime) {
+    let protocol = disk_protocol(&rt, rt.alloc(), [0x28, 0, 0, 0, 0, 3, 0, 0, 1, 0], &[]);
+    check(&rt, protocol.count() == 5);
+    let mut words = [0; 384];
+    let mut page = [7; 512];
+    let asked = protocol.encode(4, 7, &mut words, &mut page);
+    let packet = &words[..asked.packet];
+    check(&rt, asked.lent == 64);
+    check(&rt, protocol.head(packet, &[7; 64]).is_some());
+    check(&rt, protocol.head(packet, &[7; 32]).is_none());
+    check(&rt, protocol.head(packet, &[]).is_none());
+    let mut out = [0; 384];
+    let done = protocol.write_fixed(packet, &[], &mut out);
+    check(&rt, done == 10);
+    let stopped = [
+        1, 0, 0, 0, 1, 0, 0, 0, 0, 0, 0, 0, 52, 0, 4, 0, 0, 0, 0, 0, 10, 20, 1, 0, 0, 2, 0, 0,
+        0x28, 0, 0, 0, 0, 3, 0, 0, 1,
+    ];
+    is_packet(&rt, &out[..done], DONE, 7, &stopped);
 }
 
 #[test]
@@ -289,9 +358,46 @@ fn disks_write_and_read(rt: HostRuntime) -> Result<(), Fail> {
     Ok(())
 }
 
+/// An inquiry for 20 bytes is served with 20, in 3 words of its page. Where only 2 words came it asks nothing of the disk, and is stopped with srb_status 4.
+#[test]
+fn short_inquiries(rt: HostRuntime) -> Result<(), Fail> {
+    let mut disk = Disk::make(rt.alloc(), 64, &[])?;
+    let protocol = disk_protocol(&rt, rt.alloc(), [0x12, 0, 0, 0, 20, 0, 0, 0, 0, 0], &[]);
+    let mut words = [0; 384];
+    let mut page = [7; 512];
+    gives(
+        &rt,
+        rt.alloc(),
+        &mut disk,
+        &protocol,
+        &mut words,
+        &mut page,
+        b"\x00\x00\x05\x02\x1f\x00\x00\x00RATTLE  VMBU",
+    );
+    check(&rt, (words[2], words[3], words[4]) == (1 << 32, 20, 6));
+    check(&rt, page[3] == 7);
+    check(&rt, protocol.count() == 5);
+    let asked = protocol.encode(4, 7, &mut words, &mut page);
+    let packet = &words[..asked.packet];
+    check(&rt, asked.lent == 3);
+    check(&rt, protocol.head(packet, &[7; 3]).is_some());
+    check(&rt, protocol.head(packet, &[7; 2]).is_none());
+    let mut out = [0; 384];
+    let done = protocol.write_fixed(packet, &[7; 2], &mut out);
+    check(&rt, done == 10);
+    let stopped = [
+        1, 0, 0, 0, 1, 0, 0, 0, 0, 0, 0, 0, 52, 0, 4, 0, 0, 0, 0, 0, 6, 20, 1, 0, 20, 0, 0, 0,
+        0x12, 0, 0, 0, 20,
+    ];
+    is_packet(&rt, &out[..done], DONE, 7, &stopped);
+    Ok(())
+}
+
 #[test]
 fn some_commands_are_not_asked(rt: HostRuntime) {
-    let long = command([0x28, 0, 0, 0, 0, 5, 0, 0, 5, 0], &[]);
+    let long = command([0x28, 0, 0, 0, 0, 5, 0, 0, 9, 0], &[]);
+    let most = command([0x28, 0, 0, 0, 0, 5, 0, 0, 8, 0], &[]);
+    check(&rt, is_askable(DeviceKind::Disk, &most));
     check(&rt, !is_askable(DeviceKind::Disk, &long));
     check(&rt, !is_askable(DeviceKind::Beat, &command([0; 10], &[])));
 }
@@ -312,7 +418,7 @@ fn negotiates(rt: &impl Abort, alloc: Global, protocol: &DeviceProtocol) {
     check(rt, protocol.id(&out[..back]) == 4);
     check(
         rt,
-        said(rt, alloc, protocol, 0, &[], &out[..back]).is_none(),
+        said(rt, alloc, protocol, 0, &[], &out[..back], &[]).is_none(),
     );
 }
 
@@ -354,7 +460,7 @@ fn beat_round(rt: &impl Abort, alloc: Global, protocol: &DeviceProtocol) -> Opti
     let back = back.packet;
     check(rt, back > 0);
     check(rt, protocol.id(&out[..back]) == 5);
-    said(rt, alloc, protocol, 1, &[], &out[..back])
+    said(rt, alloc, protocol, 1, &[], &out[..back], &[])
 }
 
 /// A guest refuses to hibernate.
@@ -394,5 +500,5 @@ fn down_round(rt: &impl Abort, alloc: Global, protocol: &DeviceProtocol) -> Opti
     let back = protocol.write_answer(packet, &[], &head, &reply, &mut out, &mut [0; 512]);
     let back = back.packet;
     check(rt, back > 0);
-    said(rt, alloc, protocol, 1, &[], &out[..back])
+    said(rt, alloc, protocol, 1, &[], &out[..back], &[])
 }

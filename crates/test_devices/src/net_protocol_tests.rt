@@ -178,7 +178,7 @@ fn net_round(
     let back = protocol.write_answer(packet, &[], &head, &reply, &mut out, &mut [0; 512]);
     let back = back.packet;
     check(rt, &out[..back] == done(77).as_slice());
-    said(rt, alloc, protocol, 3, &before[..len], &out[..back])
+    said(rt, alloc, protocol, 3, &before[..len], &out[..back], &[])
 }
 
 /// A message is acknowledged under its id.

@@ -26,7 +26,7 @@ fn a_number_is_out_of_range(rt: HostRuntime) {
         &rt,
         b"offer disk d0 64 0\r\n# a comment\r\nread d0 1  70\r\n",
         true,
-        b"script line 3: Range\n    read d0 1  70\n               ^^\n    read NAME LBA COUNT: LBA is 0 to 18446744073709551615, COUNT 0 to 4\n",
+        b"script line 3: Range\n    read d0 1  70\n               ^^\n    read NAME LBA COUNT: LBA is 0 to 18446744073709551615, COUNT 0 to 8\n",
     );
     says(
         &rt,

@@ -1,8 +1,8 @@
 //! A host's worker of a disk whose plan and seat are for one request fewer than its guest asks.
-ghost use Rattle.std.specs.Prelude.{◌≡◌, None};
+ghost use Rattle.std.specs.Prelude.{◌≡◌, ◌≤◌, None};
 ghost use Rattle.worker_pair.specs.Workers.{IsLive};
 ghost use Rattle.io_edge.specs.declared.side.Side.TheVariants.{Guest as GuestSide, Host as HostSide};
-ghost use Rattle.ring_seat.specs.Seats.{new_end};
+ghost use Rattle.ring_seat.specs.Whole.{new_paged};
 ghost use Rattle.script_lines.specs.Requests.{CanBeCarried};
 
 use crate::check::check;
@@ -32,8 +32,9 @@ fn ready() -> DiskRequest
 }
 
 // A guest that asks three times.
-fn guest_of(rt: &(impl Abort + AllocGlobal), end: GuestEnd) -> GuestWorker
-    requires { end.state ≡ new_end 512 GuestSide }
+fn guest_of(rt: &(impl Abort + AllocGlobal), end: GuestEnd, window: u32) -> GuestWorker
+    requires window { (1 ≤ window) × (window ≤ 64) }
+    requires end { end.state ≡ new_paged 512 window GuestSide }
     ensures { IsLive result }
 {
     let alloc = rt.alloc();
@@ -43,7 +44,7 @@ fn guest_of(rt: &(impl Abort + AllocGlobal), end: GuestEnd) -> GuestWorker
         kind: DeviceKind::Disk,
         sub: 0,
         subs: 0,
-        window: 4,
+        window,
         count: 3,
         disk: Vec::from_array(alloc, asks).expect(rt, "memory"),
         net: Vec::new(alloc),
@@ -52,8 +53,9 @@ fn guest_of(rt: &(impl Abort + AllocGlobal), end: GuestEnd) -> GuestWorker
 }
 
 // A host that serves two requests.
-fn host_of(rt: &(impl Abort + AllocGlobal), end: HostEnd) -> HostWorker
-    requires { end.state ≡ new_end 512 HostSide }
+fn host_of(rt: &(impl Abort + AllocGlobal), end: HostEnd, window: u32) -> HostWorker
+    requires window { (1 ≤ window) × (window ≤ 64) }
+    requires end { end.state ≡ new_paged 512 window HostSide }
     ensures { IsLive result }
 {
     let alloc = rt.alloc();
@@ -64,12 +66,22 @@ fn host_of(rt: &(impl Abort + AllocGlobal), end: HostEnd) -> HostWorker
         kind: DeviceKind::Disk,
         sub: 0,
         subs: 0,
-        window: 4,
+        window,
         count: 2,
         stop: None,
         asks: Vec::new(alloc),
     };
     HostWorker::make(alloc, end, HostSeat::Disk(seat), plan).expect(rt, "memory")
+}
+
+// Both workers of one channel, which has a data page for each request that can be open.
+fn workers(rt: &(impl Abort + AllocGlobal), window: u32) -> (GuestWorker, HostWorker)
+    requires { (1 ≤ window) × (window ≤ 64) }
+    ensures guest { IsLive result.0 }
+    ensures host { IsLive result.1 }
+{
+    let (guest, host) = ChannelMem::make(rt.alloc(), 1, window).expect(rt, "memory");
+    (guest_of(rt, guest, window), host_of(rt, host, window))
 }
 
 // How the guest's worker ends, where this turn is its last one.
@@ -117,10 +129,11 @@ fn host_ends(rt: &impl Wait, guest: &mut GuestWorker, host: &mut HostWorker) -> 
 
 #[test]
 fn a_short_plan_ends_for_want_of_room(rt: HostRuntime) {
-    let (guest_end, host_end) = ChannelMem::make(rt.alloc(), 1, 0).expect(&rt, "memory");
-    let mut guest = guest_of(&rt, guest_end);
-    let mut host = host_of(&rt, host_end);
+    let (mut guest, mut host) = workers(&rt, 4);
     // Both calls of its seat are made, and the third request is still to be served.
     let ended = host_ends(&rt, &mut guest, &mut host);
     check(&rt, matches!(ended, Some(Ended::Room { left: 0, .. })));
+    // Let go by a call: the proof of a drop at a block's end is minutes of work.
+    drop(guest);
+    drop(host);
 }

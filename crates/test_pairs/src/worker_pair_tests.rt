@@ -139,4 +139,7 @@ fn workers_take_turns(rt: HostRuntime) {
     // The guest has nothing to serve yet, and falls asleep. The host sends its start-up.
     check(&rt, turn_guest(&rt, &mut guest) == Turn::Idle);
     check(&rt, turn_host(&rt, &mut host) == Turn::Moved);
+    // Let go by a call: the proof of a drop at a block's end is minutes of work.
+    drop(guest);
+    drop(host);
 }

@@ -95,8 +95,8 @@ fn is_carried(cdb: &[u8; 16], out: &[u8]) -> bool
     ensures { result ≡ true → CanBeCarried (record { cdb = cdb.now; out = out.now }) }
 {
     match Command::of(cdb) {
-        Some(Command::Write { lba: _, count }) => count <= 4 && out.len() as u64 == 512 * count,
-        Some(Command::Read { lba: _, count }) => count <= 4 && out.is_empty(),
+        Some(Command::Write { lba: _, count }) => count <= 8 && out.len() as u64 == 512 * count,
+        Some(Command::Read { lba: _, count }) => count <= 8 && out.is_empty(),
         _ => false,
     }
 }
@@ -149,10 +149,10 @@ fn blocks(rt: &(impl Abort + AllocGlobal), stop: Option<Stop>) -> Pair
     .expect(rt, "memory")
 }
 
-// Whether two lists have the same packets, so many.
+// Whether two lists have the same packets with the same page words, so many.
 fn are_same(left: &Packets, right: &Packets, count: usize) -> bool {
     for i in 0..count {
-        if left.get(i) != right.get(i) {
+        if left.get(i) != right.get(i) || left.lent(i) != right.lent(i) {
             return false;
         }
     }
@@ -200,8 +200,20 @@ fn check_downs(rt: &impl Abort, done: &PairDone) {
     }
 }
 
+// The page words of a packet are so many bytes 9.
+fn check_words(rt: &impl Abort, list: &Packets, i: usize) {
+    match list.lent(i) {
+        Some(words) => check(rt, words == [0x0909_0909_0909_0909; 64].as_slice()),
+        None => panic!(rt; "no packet"),
+    }
+}
+
+// Behind the four packets of the start-up, the write's data stands in its page words, comes back with its completion, and so does that of the read.
 fn check_blocks(rt: &impl Abort, done: &PairDone) {
     check_pair(rt, done, 7);
+    check_words(rt, done.settled.guest_sent(), 4);
+    check_words(rt, done.settled.host_sent(), 4);
+    check_words(rt, done.settled.host_sent(), 5);
     match &done.replies[0] {
         Reply::Disk(DiskReply::Good(back)) => check(rt, back.bytes().is_empty()),
         _ => panic!(rt; "not written"),

@@ -178,7 +178,11 @@ const WRONG_SCRIPTS: &[(&[u8], u32, Why6)] = &[
     ),
     (b"offer disk a 64 16\n", 1, Why6::Limit),
     (b"offer disk d0 1099511627777 0\n", 1, Why6::Range),
-    (b"offer disk d0 64 0\nwrite d0 0 8 11\n", 2, Why6::Range),
+    (
+        b"offer disk d0 64 0\nwrite d0 0 8 11\nread d0 4 8\nread d0 0 9\n",
+        4,
+        Why6::Range,
+    ),
     (
         b"offer disk d 64 0\nrescind d after 0 held\n",
         2,
@@ -240,6 +244,15 @@ const DISKS: &[(&[u8], &[u8])] = &[
     (
         b"offer disk d0 64 0\nwindow d0 64\nwrite d0 0 4 01\nwrite d0 4 4 02\nwrite d0 8 4 03\nread d0 3 2\n",
         b"3 done @0 good\n4 done @1 good\n5 done @2 good\n6 done @3 good 512x01+512x02\nend requests 4 done 4 rescinded 0\n",
+    ),
+    (
+        b"offer disk d0 64 0\nwrite d0 0 8 11\nread d0 4 8\n",
+        b"2 done @0 good\n3 done @1 good 2048x11+2048x00\nend requests 2 done 2 rescinded 0\n",
+    ),
+    // Under one id, behind the write of a whole page, a read of one block gives that block alone.
+    (
+        b"offer disk d0 64 0\nwindow d0 1\nwrite d0 0 8 11\nwrite d0 9 1 22\nread d0 9 1\nread d0 8 1\n",
+        b"3 done @0 good\n4 done @1 good\n5 done @2 good 512x22\n6 done @3 good 512x00\nend requests 4 done 4 rescinded 0\n",
     ),
 ];
 

@@ -159,7 +159,7 @@ fn refuses_disk_offers(rt: HostRuntime) {
 }
 
 const REFUSED_LINES: [(&[u8], u32, Why6); 14] = [
-    (b"read d 0 5\n", 1, Why6::UnknownName),
+    (b"read d 0 9\n", 1, Why6::UnknownName),
     (b"offer hb h\nready h\n", 2, Why6::UnknownName),
     (b"offer hb h\ncapacity h\n", 2, Why6::UnknownName),
     (b"offer hb h\ncapacity16 h\n", 2, Why6::UnknownName),
@@ -179,7 +179,7 @@ const REFUSED_LINES: [(&[u8], u32, Why6); 14] = [
         2,
         Why6::Range,
     ),
-    (b"offer disk d 64 0\nread d 0 5\n", 2, Why6::Range),
+    (b"offer disk d 64 0\nread d 0 9\n", 2, Why6::Range),
     (
         b"offer disk d 64 0\nwrite d 0 18446744073709551616 00\n",
         2,

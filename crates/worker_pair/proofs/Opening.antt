@@ -14,7 +14,7 @@ use Rattle.script_lines.specs.Parts.{kind_asked}
 use Rattle.script_lines.specs.Requests.{CanBeCarried, most_moved, bytes_written}
 use Rattle.script_lines.specs.WellFormed.{CanGo}
 use Rattle.script_lines.specs.declared.line.Ask.{Ask}
-use Rattle.device_formats.specs.Disks.{IsDiskAsk}
+use Rattle.device_formats.specs.PageDisks.{IsPageAsk}
 use Rattle.device_formats.specs.Formats.{has_answer_on}
 use Rattle.device_formats.specs.ChannelScript.{ChannelScript, asks_of}
 use Rattle.device_formats.specs.Wants.{startup}
@@ -49,7 +49,7 @@ own (Some (Write l c)) out is = take_all (length out) out (omega arith)
 own (Some SynchronizeCache) out is = none_is out is
 own (Some (LongCapacity b a)) out is = none_is out is
 
-pub carried_can : (q : DiskRequest) → CanBeCarried q → IsBytes q.cdb → IsBytes q.out → IsDiskAsk q
+pub carried_can : (q : DiskRequest) → CanBeCarried q → IsBytes q.cdb → IsBytes q.out → IsPageAsk q
 carried_can q carried cdb_bytes out_bytes = record {
   built = carried.built;
   few = omega (arith, carried.moves, moved _ (length q.out) carried.writes);

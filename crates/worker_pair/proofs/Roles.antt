@@ -32,15 +32,15 @@ plans_agree p seat a s count asked served = record {
 }
 
 -- workers with the new ends of one channel are a pair
-pub pair_of : (g h : Seen TableSeat) (guest host : Worker) → AreOfOneChannel g h → IsNewEnd Guest g → IsNewEnd Host h → ((end_at guest).state ≡ g.state) × ((end_at guest).seat ≡ g.seat)
+pub pair_of : (n : ℕ) (g h : Seen TableSeat) (guest host : Worker) → AreOfOneChannel g h → IsNewEnd Guest n g → IsNewEnd Host n h → ((end_at guest).state ≡ g.state) × ((end_at guest).seat ≡ g.seat)
     → ((end_at host).state ≡ h.state) × ((end_at host).seat ≡ h.seat) → IsLive guest → IsLive host → AreRoles guest host → ArePair guest host
-pair_of g h guest host one g_new h_new at_g at_h guest_live host_live roles = record {
+pair_of n g h guest host one g_new h_new at_g at_h guest_live host_live roles = record {
   ends = record {
     same = ap (λ (s : TableSeat). s.seat.table_id) at_g.1 ∙ one.same ∙ sym (ap (λ (s : TableSeat). s.seat.table_id) at_h.1);
     guest = ap (λ s. s.machine.side) at_g.0 ∙ one.guest;
     host = ap (λ s. s.machine.side) at_h.0 ∙ one.host;
   };
-  bare = (ap (λ s. s.pages.count) (at_g.0 ∙ g_new.3), ap (λ s. s.pages.count) (at_h.0 ∙ h_new.3));
+  pages = ap (λ s. s.pages.count) (at_g.0 ∙ g_new.3) ∙ sym (ap (λ s. s.pages.count) (at_h.0 ∙ h_new.3));
   guest_live = guest_live;
   host_live = host_live;
   roles = roles;

@@ -8,8 +8,8 @@ use Rattle.channel_trace.specs.declared.event.Event.{Event}
 use Rattle.ring_core.specs.Seen.{Seen}
 use Rattle.ring_core.specs.declared.told.Told.{Told}
 use Rattle.ring_seat.specs.Seats.{told_in}
-use Rattle.device_formats.specs.Formats.{besides_on}
-use Rattle.device_formats.specs.ItemFormats.{item_format}
+use Rattle.device_formats.specs.Formats.{besides_on, format_of}
+use Rattle.device_formats.specs.Items.{said_item}
 use Rattle.device_formats.specs.ChannelScript.{ChannelScript, asks_of}
 use Rattle.worker_port.specs.Line.{IsLine, IsSameEnd, line_of, past_as}
 use Rattle.worker_requester.specs.Asking.{Asking, AskedFrom, AsksBy, EndsAcked, IsPaced, EverTried as AskerTried}
@@ -29,9 +29,9 @@ use Rattle.worker_pair.specs.declared.worker.Worker.TheVariants.{Asks, Serves}
 abbrev pub WorkerDone : Type 0
 WorkerDone = Done (Option DeviceSeat)
 
--- what an end did, in items: each packet without page words
+-- what an end did, in items as they are read
 abbrev pub items_in : Seen TableSeat → List (Event Item)
-items_in e = past_as (λ i. i) e.state
+items_in e = past_as said_item e.state
 
 -- what its seat tells
 abbrev pub told_at : TableSeat → Option Told
@@ -39,16 +39,16 @@ told_at s = Some (told_in s.seat.me.0)
 
 -- the worker that asks has ended so, with these replies, and its end isn't broken; it has no seat and no serials
 pub record LeavesAsked (w : Asking ChannelScript TableSeat Reply) (d : WorkerDone) : Type 0 where
-  pub asks : AsksBy (item_format w.protocol.kind) d.ended (asks_of w.protocol) (items_in d.end) d.replies.items
+  pub asks : AsksBy (format_of w.protocol.kind) d.ended (asks_of w.protocol) (items_in d.end) d.replies.items
   pub end : IsSameEnd (λ (s : TableSeat). s.seat.table_id) w.end.end d.end
   pub stands : IsLine told_at d.end
   pub honest : is_broken d.ended ≡ false
-  pub sent : AskedWithin (item_format w.protocol.kind) (length (asks_of w.protocol)) (items_in d.end)
-  pub room : AskLacksFor (item_format w.protocol.kind) (besides_on w.protocol.kind) (length (asks_of w.protocol)) d.ended (items_in d.end)
-  pub paced : IsPaced (item_format w.protocol.kind) w.starts (asks_of w.protocol) (items_in d.end)
-  pub ids : AskedFrom (item_format w.protocol.kind) (length w.table) (asks_of w.protocol) (items_in d.end)
-  pub acks : EndsAcked (item_format w.protocol.kind) d.ended (line_of (λ i. i) d.end)
-  pub tried : AskerTried (λ (s : TableSeat). s.seat.table_id) told_at (λ (s : TableSeat). None) (item_format w.protocol.kind) d.ended w.end.end (line_of (λ i. i) d.end)
+  pub sent : AskedWithin (format_of w.protocol.kind) (length (asks_of w.protocol)) (items_in d.end)
+  pub room : AskLacksFor (format_of w.protocol.kind) (besides_on w.protocol.kind) (length (asks_of w.protocol)) d.ended (items_in d.end)
+  pub paced : IsPaced (format_of w.protocol.kind) w.starts (asks_of w.protocol) (items_in d.end)
+  pub ids : AskedFrom (format_of w.protocol.kind) (length w.table) (asks_of w.protocol) (items_in d.end)
+  pub acks : EndsAcked (format_of w.protocol.kind) d.ended (line_of said_item d.end)
+  pub tried : AskerTried (λ (s : TableSeat). s.seat.table_id) told_at (λ (s : TableSeat). None) (format_of w.protocol.kind) d.ended w.end.end (line_of said_item d.end)
   pub seat : d.seat ≡ None
   pub serials : d.serials.items ≡ []
 
@@ -56,16 +56,16 @@ pub record LeavesAsked (w : Asking ChannelScript TableSeat Reply) (d : WorkerDon
 pub record LeavesServed (w : Serving ChannelScript DeviceSeat TableSeat Ask Reply) (d : WorkerDone) : Type 0 where
   pub back : DeviceSeat
   pub seat : d.seat ≡ Some back
-  pub serves : EndsBy (item_format w.responder.protocol.kind) (besides_on w.responder.protocol.kind) d.ended w (line_of (λ i. i) d.end) (calls_behind w.responder.before (served_at back))
-  pub tried : ServerTried (λ (s : TableSeat). s.seat.table_id) told_at (λ (s : TableSeat). None) (item_format w.responder.protocol.kind) (besides_on w.responder.protocol.kind) d.ended w (line_of (λ i. i) d.end) (calls_behind w.responder.before (served_at back))
+  pub serves : EndsBy (format_of w.responder.protocol.kind) (besides_on w.responder.protocol.kind) d.ended w (line_of said_item d.end) (calls_behind w.responder.before (served_at back))
+  pub tried : ServerTried (λ (s : TableSeat). s.seat.table_id) told_at (λ (s : TableSeat). None) (format_of w.responder.protocol.kind) (besides_on w.responder.protocol.kind) d.ended w (line_of said_item d.end) (calls_behind w.responder.before (served_at back))
   pub before : take (length w.responder.before) (served_at back) ≡ w.responder.before
   pub serials : d.serials.items ≡ map (λ c. c.serial) (calls_behind w.responder.before (served_at back))
   pub end : IsSameEnd (λ (s : TableSeat). s.seat.table_id) w.end.end d.end
   pub place : device_place back ≡ device_place w.responder.seat
   pub stands : IsLine told_at d.end
   pub honest : is_broken d.ended ≡ false
-  pub sent : ServedWithin (item_format w.responder.protocol.kind) (besides_on w.responder.protocol.kind) (items_in d.end)
-  pub room : ServeLacksFor (item_format w.responder.protocol.kind) (besides_on w.responder.protocol.kind) (w.starts + w.come) w.serve w.stops d.ended (items_in d.end)
+  pub sent : ServedWithin (format_of w.responder.protocol.kind) (besides_on w.responder.protocol.kind) (items_in d.end)
+  pub room : ServeLacksFor (format_of w.responder.protocol.kind) (besides_on w.responder.protocol.kind) (w.starts + w.come) w.serve w.stops d.ended (items_in d.end)
   pub replies : d.replies.items ≡ []
 
 abbrev pub Leaves : Worker → WorkerDone → Type 0
@@ -83,16 +83,16 @@ of_host d = record { end = d.end; ended = d.ended; seat = at_host d.seat; serial
 abbrev pub StandsAsking : Option Ended → Asking ChannelScript TableSeat Reply → Type 0
 StandsAsking None w = w.end.state.machine.marked ≡ false
 StandsAsking (Some how) w =
-    AsksBy (item_format w.protocol.kind) how (asks_of w.protocol) w.end.state.past w.told × AskedWithin (item_format w.protocol.kind) (length (asks_of w.protocol)) w.end.state.past
-    × AskLacksFor (item_format w.protocol.kind) (besides_on w.protocol.kind) (length (asks_of w.protocol)) how w.end.state.past
-    × IsPaced (item_format w.protocol.kind) w.starts (asks_of w.protocol) w.end.state.past × AskedFrom (item_format w.protocol.kind) (length w.table) (asks_of w.protocol) w.end.state.past
-    × EndsAcked (item_format w.protocol.kind) how w.end × (is_broken how ≡ false)
-    × AskerTried (λ (s : TableSeat). s.seat.table_id) told_at (λ (s : TableSeat). None) (item_format w.protocol.kind) how w.end.end w.end
+    AsksBy (format_of w.protocol.kind) how (asks_of w.protocol) w.end.state.past w.told × AskedWithin (format_of w.protocol.kind) (length (asks_of w.protocol)) w.end.state.past
+    × AskLacksFor (format_of w.protocol.kind) (besides_on w.protocol.kind) (length (asks_of w.protocol)) how w.end.state.past
+    × IsPaced (format_of w.protocol.kind) w.starts (asks_of w.protocol) w.end.state.past × AskedFrom (format_of w.protocol.kind) (length w.table) (asks_of w.protocol) w.end.state.past
+    × EndsAcked (format_of w.protocol.kind) how w.end × (is_broken how ≡ false)
+    × AskerTried (λ (s : TableSeat). s.seat.table_id) told_at (λ (s : TableSeat). None) (format_of w.protocol.kind) how w.end.end w.end
 
 -- and one that serves
 abbrev pub StandsServing : Option Ended → Serving ChannelScript DeviceSeat TableSeat Ask Reply → Type 0
 StandsServing None w = w.end.state.machine.marked ≡ false
 StandsServing (Some how) w =
-    EndsBy (item_format w.responder.protocol.kind) (besides_on w.responder.protocol.kind) how w w.end w.responder.calls × ServedWithin (item_format w.responder.protocol.kind) (besides_on w.responder.protocol.kind) w.end.state.past
-    × ServeLacksFor (item_format w.responder.protocol.kind) (besides_on w.responder.protocol.kind) (w.starts + w.come) w.serve w.stops how w.end.state.past × (is_broken how ≡ false)
-    × ServerTried (λ (s : TableSeat). s.seat.table_id) told_at (λ (s : TableSeat). None) (item_format w.responder.protocol.kind) (besides_on w.responder.protocol.kind) how w w.end w.responder.calls
+    EndsBy (format_of w.responder.protocol.kind) (besides_on w.responder.protocol.kind) how w w.end w.responder.calls × ServedWithin (format_of w.responder.protocol.kind) (besides_on w.responder.protocol.kind) w.end.state.past
+    × ServeLacksFor (format_of w.responder.protocol.kind) (besides_on w.responder.protocol.kind) (w.starts + w.come) w.serve w.stops how w.end.state.past × (is_broken how ≡ false)
+    × ServerTried (λ (s : TableSeat). s.seat.table_id) told_at (λ (s : TableSeat). None) (format_of w.responder.protocol.kind) (besides_on w.responder.protocol.kind) how w w.end w.responder.calls

@@ -1,9 +1,11 @@
 -- The two workers of a channel.
-use Rattle.std.specs.Prelude.{ℕ, ◌≡◌, ◌≤◌, ◌+◌, false, length, None, Some}
+use Rattle.std.specs.Prelude.{ℕ, ◌≡◌, ◌≤◌, ◌+◌, false, length, None, Some, if◌then◌else◌}
 use Rattle.io_edge.specs.declared.side.Side.{Side}
 use Rattle.io_edge.specs.declared.side.Side.TheVariants.{Guest, Host}
 use Rattle.ring_core.specs.Seen.{Seen}
-use Rattle.ring_seat.specs.Seats.{new_end}
+use Rattle.worker_port.specs.Line.{paged_end}
+use Rattle.contact.specs.declared.kind.DeviceKind.{DeviceKind}
+use Rattle.device_formats.specs.Formats.{lends_on}
 use Rattle.ring_seat.specs.declared.table_seat.TableSeat.{TableSeat}
 use Rattle.script_lines.specs.declared.line.Ask.{Ask}
 use Rattle.bus_script.specs.declared.outcome.Reply.{Reply}
@@ -30,10 +32,10 @@ AreRoles (Asks a) (Serves s) = PlansAgree a s
 AreRoles (Serves s) (Asks a) = PlansAgree a s
 AreRoles (Serves s) (Serves t) = ⊥
 
--- the guest's worker and the host's worker of one channel: they have its two ends, the channel has no data pages, neither has ended, and their plans agree
+-- the guest's worker and the host's worker of one channel: they have its two ends, of as many data pages, neither has ended, and their plans agree
 pub record ArePair (guest host : Worker) : Type 0 where
   pub ends : AreOfOneChannel (end_at guest) (end_at host)
-  pub bare : ((end_at guest).state.pages.count ≡ 0) × ((end_at host).state.pages.count ≡ 0)
+  pub pages : (end_at guest).state.pages.count ≡ (end_at host).state.pages.count
   pub guest_live : IsLive guest
   pub host_live : IsLive host
   pub roles : AreRoles guest host
@@ -43,6 +45,10 @@ abbrev pub AreMadeAt : Side → Planned → DeviceSeat → Worker → Worker →
 AreMadeAt Guest p seat guest host = IsMade p None guest × IsMade p (Some seat) host
 AreMadeAt Host p seat guest host = IsMade p (Some seat) guest × IsMade p None host
 
--- a new end of this side, of rings of 1 to 16 pages
-abbrev pub IsNewEnd : Side → Seen TableSeat → Type 0
-IsNewEnd side e = (cells : ℕ) × (512 ≤ cells) × (cells ≤ 16777216) × (e.state ≡ new_end cells side)
+-- how many data pages a channel has on which so many requests can be open: one for each, where its packets lend them
+abbrev pub pages_on : DeviceKind → ℕ → ℕ
+pages_on kind window = if lends_on kind then window else 0
+
+-- a new end of this side, of rings of 1 to 16 pages and of so many data pages
+abbrev pub IsNewEnd : Side → ℕ → Seen TableSeat → Type 0
+IsNewEnd side pages e = (cells : ℕ) × (512 ≤ cells) × (cells ≤ 16777216) × (e.state ≡ paged_end pages cells side)

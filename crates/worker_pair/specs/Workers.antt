@@ -1,8 +1,7 @@
 -- The workers of a channel, as contracts see them.
 use Rattle.std.specs.Prelude.{ℕ, ◌≡◌, false, length, Option, Some, None}
 use Rattle.io_edge.specs.declared.side.Side.{Side}
-use Rattle.device_formats.specs.Formats.{besides_on}
-use Rattle.device_formats.specs.ItemFormats.{item_format}
+use Rattle.device_formats.specs.Formats.{besides_on, format_of}
 use Rattle.device_formats.specs.ChannelScript.{asks_of}
 use Rattle.ring_core.specs.Seen.{Seen}
 use Rattle.ring_seat.specs.declared.table_seat.TableSeat.{TableSeat}
@@ -55,8 +54,8 @@ pub record IsOfSide (side : Side) (w : Worker) : Type 0 where
 
 -- how a turn ends, by what the worker does
 abbrev pub Turned : Turn → Worker → Type 0
-Turned turn (Asks w) = AskTurns (item_format w.protocol.kind) (besides_on w.protocol.kind) (asks_of w.protocol) turn w × AskEnds (item_format w.protocol.kind) (besides_on w.protocol.kind) w.starts (length w.table) (asks_of w.protocol) turn w.end.state.past
-Turned turn (Serves w) = Turns left_at (item_format w.responder.protocol.kind) (besides_on w.responder.protocol.kind) turn w × ServeEnds (item_format w.responder.protocol.kind) (besides_on w.responder.protocol.kind) turn w
+Turned turn (Asks w) = AskTurns (format_of w.protocol.kind) (besides_on w.protocol.kind) (asks_of w.protocol) turn w × AskEnds (format_of w.protocol.kind) (besides_on w.protocol.kind) w.starts (length w.table) (asks_of w.protocol) turn w.end.state.past
+Turned turn (Serves w) = Turns left_at (format_of w.responder.protocol.kind) (besides_on w.responder.protocol.kind) turn w × ServeEnds (format_of w.responder.protocol.kind) (besides_on w.responder.protocol.kind) turn w
 
 -- why it went so: what the worker did in it
 abbrev pub Caused : Turn → Worker → Worker → Type 0
@@ -69,11 +68,11 @@ Caused turn (Serves v) (Serves w) = ServeCause (λ (s : TableSeat). Some (told_i
 -- packet that it let go
 abbrev pub Tried : Turn → Worker → Worker → Type 0
 Tried turn (Asks v) (Asks w) =
-    v.end.state.machine.asleep ≡ false → AskTried (λ (s : TableSeat). Some (told_in s.seat.me.0)) (λ (s : TableSeat). None) (item_format w.protocol.kind) (asks_of w.protocol) turn v.end.end w
+    v.end.state.machine.asleep ≡ false → AskTried (λ (s : TableSeat). Some (told_in s.seat.me.0)) (λ (s : TableSeat). None) (format_of w.protocol.kind) (asks_of w.protocol) turn v.end.end w
 Tried turn (Asks v) (Serves w) = ⊥
 Tried turn (Serves v) (Asks w) = ⊥
 Tried turn (Serves v) (Serves w) =
-    v.end.state.machine.asleep ≡ false → ServeTried (λ (s : TableSeat). Some (told_in s.seat.me.0)) (λ (s : TableSeat). None) (item_format w.responder.protocol.kind) (besides_on w.responder.protocol.kind) turn v.end.end w
+    v.end.state.machine.asleep ≡ false → ServeTried (λ (s : TableSeat). Some (told_in s.seat.me.0)) (λ (s : TableSeat). None) (format_of w.responder.protocol.kind) (besides_on w.responder.protocol.kind) turn v.end.end w
 
 -- the same worker later
 abbrev pub GoesOn : Worker → Worker → Type 0

@@ -3,7 +3,7 @@ ghost use Rattle.std.specs.Prelude.{◌≡◌, ◌≤◌, false, IfOk};
 ghost use Rattle.io_edge.specs.declared.side.Side.TheVariants.{Guest as GuestSide, Host as HostSide};
 ghost use Rattle.ring_seat.specs.Settling.{AreOfOneChannel};
 ghost use Rattle.channel_model.specs.Roles.{side_that_asks};
-ghost use Rattle.worker_pair.specs.Pairs.{AreMadeAt, ArePair, IsNewEnd};
+ghost use Rattle.worker_pair.specs.Pairs.{AreMadeAt, ArePair, IsNewEnd, pages_on};
 ghost use Rattle.worker_pair.specs.Plans.{AsksFor, CanPlan, ServesFor, planned};
 ghost use Rattle.device_any.specs.Seats.{kind_at, left_at};
 ghost use Rattle.worker_pair.specs.Workers.{IsOfSide, end_at};
@@ -32,8 +32,9 @@ fn make_roles(
 ) -> Result<(ChannelRequester, ChannelServer), AllocError>
     requires plan { CanPlan (side_that_asks plan.kind) (planned plan asks.items) }
     requires seat { (kind_at seat ≡ plan.kind) × (plan.count ≤ left_at seat) }
-    requires asking { IsNewEnd asks_at asking }
-    requires serving { IsNewEnd serves_at serving }
+    requires at { asks_at ≡ side_that_asks plan.kind }
+    requires asking { IsNewEnd asks_at (pages_on plan.kind plan.window) asking }
+    requires serving { IsNewEnd serves_at (pages_on plan.kind plan.window) serving }
     ensures asker { IfOk result (λ r. AsksFor (planned plan asks.items) r.0) }
     ensures server { IfOk result (λ r. ServesFor (planned plan asks.items) seat r.1) }
     ensures asking { IfOk result (λ r. (r.0.end.end.state ≡ asking.state) × (r.0.end.end.seat ≡ asking.seat)) }
@@ -68,8 +69,8 @@ fn by_side(guest: Worker, host: Worker) -> (GuestWorker, HostWorker)
     (GuestWorker::over(guest), HostWorker::over(host))
 }
 
-/// The guest's worker and the host's of a new channel: the one at the side that asks has these requests, and the other one has this seat. They take all
-/// memory that the phase needs.
+/// The guest's worker and the host's of a new channel, which has a data page for each request that can be open where its packets lend pages (`pages_on`). The one at
+/// the side that asks has these requests, and the other one has this seat. They take all memory that the phase needs.
 pub fn make_both(
     alloc: Global,
     guest: GuestEnd,
@@ -81,8 +82,8 @@ pub fn make_both(
     requires plan { CanPlan (side_that_asks plan.kind) (planned plan asks.items) }
     requires seat { (kind_at seat ≡ plan.kind) × (plan.count ≤ left_at seat) }
     requires channel { AreOfOneChannel guest host }
-    requires guest { IsNewEnd GuestSide guest }
-    requires host { IsNewEnd HostSide host }
+    requires guest { IsNewEnd GuestSide (pages_on plan.kind plan.window) guest }
+    requires host { IsNewEnd HostSide (pages_on plan.kind plan.window) host }
     ensures made { IfOk result (λ r. AreMadeAt (side_that_asks plan.kind) (planned plan asks.items) seat r.0 r.1) }
     ensures pair { IfOk result (λ r. ArePair r.0 r.1) }
     ensures ends { IfOk result (λ r. ((end_at r.0).state ≡ guest.state) × ((end_at r.1).state ≡ host.state)) }

@@ -2,7 +2,8 @@
 ghost use Rattle.worker_port.specs.Rooms.{broke};
 ghost use Rattle.std.specs.Prelude.{◌≡◌, false, ◌≤◌, IfOk};
 ghost use Rattle.io_edge.specs.declared.side.Side.TheVariants.{Guest as GuestSide};
-ghost use Rattle.ring_seat.specs.Seats.{new_end};
+ghost use Rattle.worker_port.specs.Line.{paged_end};
+ghost use Rattle.worker_pair.specs.Pairs.{pages_on};
 ghost use Rattle.worker_pair.specs.Leaving.{Leaves, of_guest};
 ghost use Rattle.worker_pair.specs.Plans.{CanPlan, HasSeat, IsMade, guest_planned};
 ghost use Rattle.worker_pair.specs.Seats.{IsAt, at_guest};
@@ -45,7 +46,7 @@ impl GuestWorker {
     ) -> Result<GuestWorker, AllocError>
         requires plan { CanPlan GuestSide (guest_planned plan) }
         requires seat { HasSeat GuestSide (guest_planned plan) (at_guest seat) }
-        requires fresh { end.state ≡ new_end end.state.machine.cells GuestSide }
+        requires fresh { end.state ≡ paged_end (pages_on plan.kind plan.window) end.state.machine.cells GuestSide }
         requires size { (512 ≤ end.state.machine.cells) × (end.state.machine.cells ≤ 16777216) }
         ensures made { IfOk result (IsMade (guest_planned plan) (at_guest seat)) }
         ensures end { IfOk result (λ w. ((end_at w).state ≡ end.state) × ((end_at w).seat ≡ end.seat)) }

@@ -1,5 +1,5 @@
 //! The making of a worker.
-ghost use Rattle.std.specs.Prelude.{◌≡◌, ◌≤◌, ◌+◌, false, [], length, map, filter, is_some, IfOk, None};
+ghost use Rattle.std.specs.Prelude.{◌≡◌, ◌≢◌, ◌≤◌, ◌+◌, false, true, length, map, filter, is_some, IfOk, None};
 ghost use Rattle.std.specs.List.{AllByRecursion};
 ghost use Rattle.script_lines.specs.Parts.{kind_asked};
 ghost use Rattle.script_lines.specs.Requests.{CanBeCarried, IsSent};
@@ -7,10 +7,12 @@ ghost use Rattle.contact.specs.declared.kind.DeviceKind.TheVariants.{Net as NetK
 ghost use Rattle.script_lines.specs.WellFormed.{CanGo};
 ghost use Rattle.script_lines.specs.declared.line.Ask.{Ask as Asked};
 ghost use Rattle.script_lines.specs.declared.line.Ask.TheVariants.{Ic as AskedIc, Disk as AskedDisk, Net as AskedNet};
-ghost use Rattle.device_formats.specs.Disks.{IsDiskAsk};
-ghost use Rattle.device_formats.specs.Formats.{has_answer_on};
+ghost use Rattle.device_formats.specs.PageDisks.{IsPageAsk};
+ghost use Rattle.device_formats.specs.Formats.{has_answer_on, lends_on};
 ghost use Rattle.device_formats.specs.Wants.{startup, IsAskable};
-ghost use Rattle.ring_seat.specs.Seats.{new_end};
+ghost use Rattle.worker_port.specs.Line.{paged_end};
+ghost use Rattle.channel_model.specs.Roles.{side_that_asks};
+ghost use Rattle.worker_pair.specs.Pairs.{pages_on};
 ghost use Rattle.worker_pair.specs.Plans.{AllCarried, CanPlan, HasSeat, IsMade, guest_asks, planned, silent, stop_of};
 ghost use Rattle.channel_model.specs.Channel.{count_of, held_of};
 ghost use Rattle.device_any.specs.Seats.{served_at, kind_at, left_at};
@@ -46,7 +48,7 @@ fn service_can(kind: DeviceKind, ask: IcAsk)
 // A command that a disk's channel carries can be asked on it. It does nothing.
 fn disk_can(cdb: &[u8], out: &[u8])
     requires { CanBeCarried (record { cdb = cdb.now; out = out.now }) }
-    ensures { IsDiskAsk (record { cdb = cdb.now; out = out.now }) }
+    ensures { IsPageAsk (record { cdb = cdb.now; out = out.now }) }
 {
     let _len = cdb.len() + out.len();
 }
@@ -148,9 +150,10 @@ pub(crate) fn make_asker(
     requires window { (1 ≤ window) × (window ≤ 64) }
     requires few { length asks.items ≤ 4096 }
     requires asks { AllCarried kind asks.items }
-    requires fresh { end.state ≡ new_end end.state.machine.cells end.state.machine.side }
+    requires fresh { end.state ≡ paged_end (pages_on kind window) end.state.machine.cells end.state.machine.side }
     requires size { (512 ≤ end.state.machine.cells) × (end.state.machine.cells ≤ 16777216) }
     requires side { side ≡ end.state.machine.side }
+    requires at { side ≡ side_that_asks kind }
     ensures can { IfOk result (λ w. AllByRecursion (IsAskable kind) asks.items) }
     ensures protocol { IfOk result (λ w. w.protocol ≡ record { kind = kind; sub = sub; subs = subs; asks = asks.items }) }
     ensures relid { IfOk result (λ w. w.relid ≡ relid) }
@@ -213,7 +216,8 @@ pub(crate) fn make_server(
     requires kind { kind_at seat ≡ kind }
     requires left { count ≤ left_at seat }
     requires few { count ≤ 4096 }
-    requires fresh { end.state ≡ new_end end.state.machine.cells end.state.machine.side }
+    requires fresh { end.state ≡ paged_end end.state.pages.count end.state.machine.cells end.state.machine.side }
+    requires pages { (lends_on kind ≡ false → end.state.pages.count ≡ 0) × (lends_on kind ≡ true → end.state.pages.count ≢ 0) }
     requires size { (512 ≤ end.state.machine.cells) × (end.state.machine.cells ≤ 16777216) }
     requires side { side ≡ end.state.machine.side }
     ensures relid { IfOk result (λ w. w.responder.relid ≡ relid) }
@@ -258,7 +262,7 @@ pub(crate) fn make_worker(
     requires plan { CanPlan side (planned plan asks.items) }
     requires seat { HasSeat side (planned plan asks.items) seat }
     requires side { IsAt side seat }
-    requires fresh { end.state ≡ new_end end.state.machine.cells side }
+    requires fresh { end.state ≡ paged_end (pages_on plan.kind plan.window) end.state.machine.cells side }
     requires size { (512 ≤ end.state.machine.cells) × (end.state.machine.cells ≤ 16777216) }
     ensures made { IfOk result (IsMade (planned plan asks.items) seat) }
     ensures end { IfOk result (λ w. ((end_at w).state ≡ end.state) × ((end_at w).seat ≡ end.seat)) }

@@ -1,4 +1,6 @@
-use Rattle.std.proofs.Common.{◌≡◌, ◌*◌, ◌∙◌, ap, length, arith}
+use Rattle.std.proofs.Common.{◌≡◌, ◌*◌, ◌∙◌, ap, sym, length, arith}
+use Rattle.io_edge.specs.declared.side.Side.TheVariants.{Guest, Host}
+use Rattle.worker_port.specs.Line.{paged_end}
 use Rattle.worker_pair.specs.Plans.{Planned, stop_of}
 use Rattle.worker_pair.specs.Workers.{end_at}
 use Rattle.bus_threads.proofs.Making.{opens, on_channel, made_as}
@@ -16,6 +18,14 @@ returns-clause-channel c =
     let plan : Planned = record { relid = c.args.relid; kind = c.args.kind; sub = c.args.sub; subs = c.args.subs; window = c.args.window; count = c.len.result; stop = stop_of c.args.stop; asks = c.args.asks.items } in
     let ends = c.in_ok-guest in
     let made = c.in_ok-guest-2 in
-    on_channel plan c.args.seat (512 * c.args.pages) ends.guest ends.host c.paired.result ends.ensures.guest ends.ensures.host
+    rw (sym c.data_pages.ensures.value)
+    (on_channel plan c.args.seat (512 * c.args.pages) c.data_pages.result ends.guest ends.host c.paired.result ends.ensures.guest ends.ensures.host
     (ap (λ w. (end_at w).state) c.paired.ensures.0 ∙ made.ensures.ends.0, ap (λ w. (end_at w).state) c.paired.ensures.1 ∙ made.ensures.ends.1)
-    (made_as plan c.args.seat made.guest made.host c.paired.result c.paired.ensures made.ensures.made)
+    (made_as plan c.args.seat made.guest made.host c.paired.result c.paired.ensures made.ensures.made))
+
+-- each end is new, with the data pages of its kind
+pub make_both-requires-clause-guest : goal.make_both-requires-clause-guest
+make_both-requires-clause-guest c = (512 * c.args.pages, omega (arith, c.requires.pages), omega (arith, c.requires.pages), c.in_ok-guest.ensures.guest ∙ ap (λ n. paged_end n (512 * c.args.pages) Guest) c.data_pages.ensures.value)
+
+pub make_both-requires-clause-host : goal.make_both-requires-clause-host
+make_both-requires-clause-host c = (512 * c.args.pages, omega (arith, c.requires.pages), omega (arith, c.requires.pages), c.in_ok-guest.ensures.host ∙ ap (λ n. paged_end n (512 * c.args.pages) Host) c.data_pages.ensures.value)

@@ -1,5 +1,12 @@
 use Rattle.device_formats.proofs.FormatLaws as laws
+use Rattle.device_formats.proofs.PageFormatLaws as pages
 use Rattle.device_formats.proofs.laws.keeps_to_its_laws.Goals as goal
 
-pub returns : goal.returns
-returns c = laws.keeps
+pub returns-clause-keeps : goal.returns-clause-keeps
+returns-clause-keeps c = laws.keeps
+
+pub returns-clause-may : goal.returns-clause-may
+returns-clause-may c = laws.may_have
+
+pub returns-clause-pages : goal.returns-clause-pages
+returns-clause-pages c = pages.pages_kept

@@ -7,7 +7,7 @@ use Rattle.device_protocols.proofs.PageHeadLaws.{none_if, read_is, has_so, room_
 use Rattle.device_protocols.proofs.page_disks.write_page_fixed.Goals as goal
 
 pub returns-then-not-is_page_request-clause-value : goal.returns-then-not-is_page_request-clause-value
-returns-then-not-is_page_request-clause-value c n few =
+returns-then-not-is_page_request-clause-value c n =
     let i = item_of c.args.packet.now c.args.words.now in
     none_goes i _ n (sym (c.is_page_request.ensures.value i refl) ∙ c.if-not-is_page_request.true) refl
 
@@ -20,7 +20,7 @@ pub write_done-requires-clause-allowed : goal.write_done-requires-clause-allowed
 write_done-requires-clause-allowed c = c.in-Some-fixed.ensures.0
 
 pub returns-in-Some-fixed-clause-value : goal.returns-in-Some-fixed-clause-value
-returns-in-Some-fixed-clause-value c n few =
+returns-in-Some-fixed-clause-value c n =
     let i = item_of c.args.packet.now c.args.words.now in
     let came = bytes_in c.args.words.now in
     let v = c.in-Some.v in
@@ -30,10 +30,10 @@ returns-in-Some-fixed-clause-value c n few =
     let none = read_is i v waits seen.1 ∙ ap (λ b. srb_asked v b came) (sym c.lacks_page.ensures.value) ∙ none_if (srb_asked v c.lacks_page.result came) goes.0 in
     let is = c.write_done.ensures.packet ∙ fixed_packet i v c.in-Some-fixed.answer seen.1 (goes.1 ∙ ap (λ b. page_fixed_vstor v b came) c.lacks_page.ensures.value) in
     let two = c.write_done.ensures.is_packet.two in
-    fixed_goes i _ n waits none is (omega (arith, two)) few
+    fixed_goes i _ n waits none is (omega (arith, two))
 
 pub returns-in-None-clause-value : goal.returns-in-None-clause-value
-returns-in-None-clause-value c n few =
+returns-in-None-clause-value c n =
     let i = item_of c.args.packet.now c.args.words.now in
     let came = bytes_in c.args.words.now in
     let v = c.in-Some.v in

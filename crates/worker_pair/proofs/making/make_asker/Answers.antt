@@ -1,9 +1,10 @@
-use Rattle.std.proofs.Common.{refl}
-use Rattle.worker_requester.proofs.BareLaws.{fits_bare, fresh_bare}
+use Rattle.std.proofs.Common.{ap, sym, ◌∙◌}
+use Rattle.worker_port.specs.Line.{paged_end}
+use Rattle.worker_pair.proofs.NewEnds.{fits}
 use Rattle.worker_pair.proofs.making.make_asker.Goals as goal
 
 pub make-requires-clause-fresh : goal.make-requires-clause-fresh
-make-requires-clause-fresh c = fresh_bare c.args.end _ _ c.requires.fresh
+make-requires-clause-fresh c = c.requires.fresh ∙ ap (λ n. paged_end n c.args.end.state.machine.cells c.args.end.state.machine.side) (sym (ap (λ s. s.pages.count) c.requires.fresh))
 
 pub make-requires-clause-pages : goal.make-requires-clause-pages
-make-requires-clause-pages c = fits_bare _ _ c.args.end _ _ refl c.requires.fresh
+make-requires-clause-pages c = rw (c.make-protocol.ensures) (fits c.args.end c.args.kind c.args.window c.args.side c.requires.fresh c.requires.side c.requires.at)

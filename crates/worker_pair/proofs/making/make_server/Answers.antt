@@ -1,15 +1,25 @@
-use Rattle.std.proofs.Common.{◌≡◌, ◌∙◌, ap, arith, length}
+use Rattle.std.proofs.Common.{◌≡◌, ◌∙◌, ap, arith, length, refl, sym}
 use Rattle.device_formats.specs.ChannelScript.{ChannelScript}
+use Rattle.device_formats.specs.Formats.{lends_on}
 use Rattle.device_formats.specs.Wants.{startup}
 use Rattle.worker_pair.proofs.Opening.{starts_all, if_ok}
-use Rattle.worker_requester.proofs.BareLaws.{fresh_bare}
+use Rattle.worker_pair.proofs.NewEnds.{alone_lends, lawful_seats}
 use Rattle.worker_pair.proofs.making.make_server.Goals as goal
 
-pub make-requires-clause-fresh : goal.make-requires-clause-fresh
-make-requires-clause-fresh c = fresh_bare c.args.end _ _ c.requires.fresh
-
 pub make-requires-clause-none : goal.make-requires-clause-none
-make-requires-clause-none c = λ _. ap (λ s. s.pages.count) c.requires.fresh
+make-requires-clause-none c lends = c.requires.pages.0 (ap (λ (t : ChannelScript). lends_on t.kind) (sym c.make-protocol.ensures) ∙ lends)
+
+pub make-requires-clause-some : goal.make-requires-clause-some
+make-requires-clause-some c lends = c.requires.pages.1 (ap (λ (t : ChannelScript). lends_on t.kind) (sym c.make-protocol.ensures) ∙ lends)
+
+pub make-requires-clause-alone : goal.make-requires-clause-alone
+make-requires-clause-alone c lends = alone_lends c.make-protocol.result.kind lends
+
+pub make-requires-clause-tells : goal.make-requires-clause-tells
+make-requires-clause-tells c lends = refl
+
+pub make-requires-clause-lawful : goal.make-requires-clause-lawful
+make-requires-clause-lawful c lends = lawful_seats
 
 pub overflow_sub-starts : goal.overflow_sub-starts
 overflow_sub-starts c =

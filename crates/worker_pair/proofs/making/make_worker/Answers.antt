@@ -1,20 +1,29 @@
-use Rattle.worker_pair.proofs.NewEnds.{is_new, side_of}
+use Rattle.std.proofs.Common.{subst}
+use Rattle.worker_pair.specs.Pairs.{pages_on}
+use Rattle.worker_pair.specs.Plans.{HasSeat, planned}
+use Rattle.worker_pair.proofs.NewEnds.{count_of, is_new, is_paged, on_pages, side_of}
 use Rattle.worker_pair.proofs.making.make_worker.Goals as goal
 
 pub make_asker-requires-clause-fresh : goal.make_asker-requires-clause-fresh
-make_asker-requires-clause-fresh c = is_new c.args.end c.args.side c.requires.fresh
+make_asker-requires-clause-fresh c = is_new c.args.end (pages_on c.args.plan.kind c.args.plan.window) c.args.side c.requires.fresh
 
 pub make_asker-requires-clause-size : goal.make_asker-requires-clause-size
 make_asker-requires-clause-size c = c.requires.size
 
 pub make_asker-requires-clause-side : goal.make_asker-requires-clause-side
-make_asker-requires-clause-side c = side_of c.args.end c.args.side c.requires.fresh
+make_asker-requires-clause-side c = side_of c.args.end (pages_on c.args.plan.kind c.args.plan.window) c.args.side c.requires.fresh
+
+pub make_asker-requires-clause-at : goal.make_asker-requires-clause-at
+make_asker-requires-clause-at c = subst (λ s. HasSeat c.args.side (planned c.args.plan c.args.asks.items) s) c.in-None.is c.requires.seat
 
 pub make_server-requires-clause-fresh : goal.make_server-requires-clause-fresh
-make_server-requires-clause-fresh c = is_new c.args.end c.args.side c.requires.fresh
+make_server-requires-clause-fresh c = is_paged c.args.end (pages_on c.args.plan.kind c.args.plan.window) c.args.side c.requires.fresh
+
+pub make_server-requires-clause-pages : goal.make_server-requires-clause-pages
+make_server-requires-clause-pages c = on_pages c.args.plan.kind c.args.plan.window c.args.end.state.pages.count c.requires.plan.window.0 (count_of c.args.end (pages_on c.args.plan.kind c.args.plan.window) c.args.side c.requires.fresh)
 
 pub make_server-requires-clause-size : goal.make_server-requires-clause-size
 make_server-requires-clause-size c = c.requires.size
 
 pub make_server-requires-clause-side : goal.make_server-requires-clause-side
-make_server-requires-clause-side c = side_of c.args.end c.args.side c.requires.fresh
+make_server-requires-clause-side c = side_of c.args.end (pages_on c.args.plan.kind c.args.plan.window) c.args.side c.requires.fresh

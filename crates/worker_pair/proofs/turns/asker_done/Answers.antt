@@ -2,7 +2,8 @@ use Rattle.std.proofs.Common.{List, ap, sym, subst, ◌∙◌}
 use Rattle.ring_core.specs.Seen.{Seen}
 use Rattle.ring_seat.specs.declared.table_seat.TableSeat.{TableSeat}
 use Rattle.bus_script.specs.declared.outcome.Reply.{Reply}
-use Rattle.device_formats.specs.ItemFormats.{item_format}
+use Rattle.device_formats.specs.Formats.{format_of}
+use Rattle.device_formats.specs.Items.{said_item}
 use Rattle.device_formats.specs.ChannelScript.{asks_of}
 use Rattle.worker_port.specs.Line.{IsLine, line_of}
 use Rattle.worker_port.specs.declared.ended.Ended.{Ended}
@@ -16,5 +17,5 @@ returns c =
     let w = c.args.asker in
     let e = c.asked.ensures in
     let d = c.done.ensures in
-    let asks = subst (λ (p : Ended × Seen TableSeat × List Reply). AsksBy (item_format w.protocol.kind) p.0 (asks_of w.protocol) (items_in p.1) p.2) (λ i. (sym e.end.1 i, sym e.end.0 i, sym e.replies i)) d.ends in
-    asker_leaves w c.args.ended c.asked.result c.requires (e.end.1 ∙ d.same.0) (d.line ∙ ap (line_of (λ i. i)) (sym e.end.0)) (subst (IsLine told_at) (sym e.end.0) d.stands) asks e.others.0 e.others.1
+    let asks = subst (λ (p : Ended × Seen TableSeat × List Reply). AsksBy (format_of w.protocol.kind) p.0 (asks_of w.protocol) (items_in p.1) p.2) (λ i. (sym e.end.1 i, sym e.end.0 i, sym e.replies i)) d.ends in
+    asker_leaves w c.args.ended c.asked.result c.requires (e.end.1 ∙ d.same.0) (d.line ∙ ap (line_of said_item) (sym e.end.0)) (subst (IsLine told_at) (sym e.end.0) d.stands) asks e.others.0 e.others.1

@@ -1,4 +1,4 @@
-use Rattle.std.proofs.Common.{◌≡◌, sym, ◌∙◌}
+use Rattle.std.proofs.Common.{◌≡◌, ap, ◌∙◌}
 use Rattle.device_formats.specs.Formats.{format_of}
 use Rattle.device_formats.specs.ChannelScript.{ChannelScript}
 use Rattle.device_protocols.proofs.device_protocol.DeviceProtocolProtocol.is_message.Goals as goal
@@ -7,4 +7,4 @@ pub returns : goal.returns
 returns c i e =
     let t : ChannelScript = record { kind = c.self.inside.kind; sub = c.self.inside.sub; subs = c.self.inside.subs; asks = c.self.inside.asks.items } in
     let v : t ≡ c.args.self.now = c.self.view_is in
-    c.is_message.ensures ∙ (λ j. (format_of (v j).kind).is_message (sym e j))
+    c.is_message.ensures i e ∙ ap (λ (x : ChannelScript). (format_of x.kind).is_message i) v

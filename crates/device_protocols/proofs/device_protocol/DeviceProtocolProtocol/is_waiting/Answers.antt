@@ -1,4 +1,4 @@
-use Rattle.std.proofs.Common.{◌≡◌, sym, ◌∙◌}
+use Rattle.std.proofs.Common.{◌≡◌, ap, ◌∙◌}
 use Rattle.std.specs.Prelude.{◌&&◌}
 use Rattle.device_formats.specs.Formats.{format_of, waits_on}
 use Rattle.device_formats.specs.ChannelScript.{ChannelScript}
@@ -8,4 +8,4 @@ pub returns : goal.returns
 returns c i e =
     let t : ChannelScript = record { kind = c.self.inside.kind; sub = c.self.inside.sub; subs = c.self.inside.subs; asks = c.self.inside.asks.items } in
     let v : t ≡ c.args.self.now = c.self.view_is in
-    c.waits.ensures ∙ (λ j. (format_of (v j).kind).is_request (sym e j) && waits_on (v j).kind (sym e j))
+    c.waits.ensures i e ∙ ap (λ (x : ChannelScript). (format_of x.kind).is_request i && waits_on x.kind i) v

@@ -1,0 +1,75 @@
+-- What is written on a channel of each kind is as it is read: what no page words go along with, and of a disk's channel what its packets say.
+use Rattle.std.proofs.Common.{◌≡◌, ℕ, Bool, true, false, cond, ◌&&◌, List, [], ◌∷◌, ◌++◌, length, Option, Some, None, refl, subst, sym, arith}
+use Rattle.std.specs.Prelude.{is_none}
+use Rattle.std.proofs.lemmas.List.{take_all}
+use Rattle.page_kept.specs.declared.item.Item.{Item}
+use Rattle.contact.specs.declared.kind.DeviceKind.{DeviceKind}
+use Rattle.contact.specs.declared.kind.DeviceKind.TheVariants.{Beat, Down, Disk, Net}
+use Rattle.script_lines.specs.declared.line.Ask.{Ask}
+use Rattle.bus_script.specs.declared.outcome.Reply.{Reply}
+use Rattle.channel_model.specs.Carried.{back_by}
+use Rattle.channel_model.specs.Lift.{lift, mapped, or_else}
+use Rattle.channel_model.specs.WireFormat.{Back, WireFormat, listed, packets_in, packets_of, under_own}
+use Rattle.channel_protocol.specs.Paged.{bare_item, in_packets}
+use Rattle.device_formats.specs.declared.want.Want.{Want}
+use Rattle.device_formats.specs.Codecs.{alone, format_by}
+use Rattle.device_formats.specs.Formats.{format_of}
+use Rattle.device_formats.specs.Items.{said_item}
+use Rattle.device_formats.specs.Kinds.{disk_reply, disks, nets, services}
+use Rattle.device_formats.specs.Nets.{net_format}
+use Rattle.device_formats.specs.PageDisks.{page_answer, page_fixed, page_read, page_waits}
+use Rattle.device_formats.specs.Services.{service_codec}
+use Rattle.device_formats.proofs.PageFormatLaws.{disk_replies, replied_is, said_answered, said_asked, said_fixed_so}
+use Rattle.device_formats.proofs.SaidLaws.{said_bare}
+use Rattle.bus_model.proofs.Made.{AllSo, ReadsSo}
+
+-- a message and an answer without page words
+bare_message : (own : ℕ) (o : Option (ℕ → List ℕ)) (rest : List Item) → AllSo said_item rest → AllSo said_item (listed (under_own own (mapped (λ (m : ℕ → List ℕ) (own : ℕ). bare_item (m own)) o)) ++ rest)
+bare_message own None rest h = h
+bare_message own (Some m) rest h = (said_bare (m own), h)
+
+bare_back : (own : ℕ) (b : Back (List ℕ)) → AllSo said_item (packets_of own (back_by bare_item bare_item b))
+bare_back own b = bare_message own b.message (bare_item b.answer ∷ []) (said_bare b.answer, tt)
+
+bare_fixed : (own : ℕ) (o : Option (Back (List ℕ))) → AllSo said_item (packets_in own (mapped (back_by bare_item bare_item) o))
+bare_fixed own None = tt
+bare_fixed own (Some b) = bare_back own b
+
+bare_so : (s : WireFormat (List ℕ) Want Ask Reply) → ReadsSo said_item (in_packets s)
+bare_so s = record {
+  asks = λ id a. said_bare (s.encode id a);
+  given = λ i q r own h fits. bare_back own (s.gives i.packet r);
+  fixed = λ i own. bare_fixed own (s.fixed i.packet);
+  acked = λ i. said_bare (s.ack i.packet);
+}
+
+-- a disk's answers
+given_so : (i : Item) (q : Ask) (r : Reply) → (format_of Disk).read i ≡ Some q → (format_of Disk).fits q r ≡ true → said_item (page_answer i (or_else disks.other (disk_reply r))) ≡ page_answer i (or_else disks.other (disk_reply r))
+given_so i q r h fits =
+    let own = disk_replies i q r h fits in
+    let a = page_answer i own.replied in
+    subst (λ (x : Item). said_item x ≡ x) (sym (replied_is i r own)) (said_answered i own.asked own.replied a own.reads own.holds refl (take_all (length a.words) a.words (omega arith)))
+
+fixed_if : (waits none : Bool) (i : Item) (own : ℕ) → (waits ≡ true → said_item (page_fixed i) ≡ page_fixed i) → AllSo said_item (packets_in own (cond (waits && none) (Some (alone (page_fixed i))) None))
+fixed_if true true i own h = (h refl, tt)
+fixed_if true false i own h = tt
+fixed_if false none i own h = tt
+
+-- a disk's packets acknowledge nothing: what would is a completion without page words
+acked_so : (i : Item) → said_item (page_fixed i) ≡ page_fixed i
+unfolding page_fixed
+acked_so i = said_bare (page_fixed i).packet
+
+disk_so : ReadsSo said_item (format_of Disk)
+disk_so = record {
+  asks = said_asked;
+  given = λ i q r own h fits. (given_so i q r h fits, tt);
+  fixed = λ i own. fixed_if (page_waits i) (is_none (page_read i)) i own (λ waits. said_fixed_so i (page_fixed i) waits refl);
+  acked = λ i. acked_so i;
+}
+
+pub reads_so : (kind : DeviceKind) → ReadsSo said_item (format_of kind)
+reads_so Beat = bare_so (lift (format_by (service_codec Beat)) services)
+reads_so Down = bare_so (lift (format_by (service_codec Down)) services)
+reads_so Disk = disk_so
+reads_so Net = bare_so (lift net_format nets)
