@@ -5,7 +5,7 @@ use Rattle.std.proofs.lemmas.List.{length-take-le}
 use Rattle.channel_trace.specs.declared.event.Event.{Event}
 use Rattle.channel_trace.specs.declared.event.Event.TheVariants.{Got as GotEvent}
 use Rattle.ring_machine.specs.declared.machine.Stage.{Stage}
-use Rattle.ring_machine.specs.declared.machine.Stage.TheVariants.{Idle, Stopped, SendRead, SendCell, SendWrite, SendMask, TakeWrite, TakeFirst, TakeCell, CommitRead, CommitFeature, CommitPending, ArmPending, ArmMask, PollSignal, MarkStore, PeerMark}
+use Rattle.ring_machine.specs.declared.machine.Stage.TheVariants.{Idle, Stopped, SendRead, TakeWrite, CommitRead, ArmPending, ArmMask, PollSignal, MarkStore, PeerMark}
 use Rattle.ring_machine.specs.declared.machine.Ending.{Ending}
 use Rattle.ring_machine.specs.declared.machine.Ending.TheVariants.{Fresh, SentQuiet, SentRaised, Full, BadPeer, Took, Empty, BadIndex, BadLength, BadOffset, CommittedQuiet, CommittedRaised, FellAsleep, FoundWork, NoSignal, Woke, Marked, PeerMarkDown, PeerMarkUp}
 use Rattle.ring_machine.specs.declared.machine.EndMachine.{EndMachine}
@@ -21,12 +21,13 @@ use Rattle.page_kept.specs.declared.page_call.PageCall.TheVariants.{Off}
 use Rattle.ring_machine.specs.EndCalls.{EndCall, Send, Take, Commit, Arm, Poll, Mark}
 use Rattle.ring_machine.specs.Places.{ahead, len8_of, offset8_of}
 use Rattle.ring_machine.specs.Steps.{IsSound, fed, next_of, is_busy_at, is_copying_at, is_sent, is_took, is_broken, call_at, call_by, made_at, send_begun, take_begun, commit_begun, arm_begun, poll_begun, mark_begun, peer_mark_begun}
-use Rattle.ring_machine.specs.Loops.{is_storing_at, is_writing_at, is_masking_at, is_first_at, is_loading_at, is_asking_at, is_seeking_at, is_giving_at, is_feature_at, is_pending_at, is_polling_at, is_opening_at, Starts}
+use Rattle.ring_machine.specs.Loops.{is_polling_at, is_opening_at, Starts}
 use Rattle.ring_machine.specs.States.{IsPacket, Gets, kept_at, copied_at, copied_after, sent_after, sent_while, got_after, past_after, past_while, past_by, sent_by, got_by, past_by_ending, past_of, pages_after, pages_by, stored, after, afters, entered, resting_with, shown, IsAwake, MayLend, Begins, Continues}
 use Rattle.ring_machine.specs.Endings.{Leaves, LeavesBy, is_committed, is_dozed, is_marked, send_answer, is_honest_send, take_refusal}
 use Rattle.ring_core.specs.Taking.{is_honest_take}
+use Rattle.ring_core.specs.Going.{Counts, Going}
 use Rattle.ring_core.specs.declared.told.Told.{Told}
-use Rattle.ring_core.specs.Told.{Memory, pair, step, step_by, run, memory_after, answer_of, raises_at, wakes_at, raises_of, wakes_of, told_at, told_next, told_by, AreSteps, Ran, Left}
+use Rattle.ring_core.specs.Told.{Memory, pair, step, step_by, run, memory_after, answer_of, raises_at, wakes_at, raises_of, wakes_of, told_at, told_next, told_by, Ran, Left}
 use Rattle.ring_machine.proofs.Sound.{at_cond, fed_made, no_true}
 use Rattle.ring_machine.proofs.PageMoves.{pages_at, pages_moved, pages_over}
 use Rattle.ring_machine.proofs.Tables.{copied_by, fed_cells, busy_next, Lists, lists_by, Moves, moves_by, w_at, r_at, s_at, a_at, k_at, write_at, read_at, start_at, asleep_at, marked_at, Form, is_formed, form_by}
@@ -85,31 +86,6 @@ still : (st : Stage) (xs : List ℕ) → is_busy_at st ≡ false → copied_at s
 still Idle xs n = refl
 still Stopped xs n = refl
 still _ xs n = absurd (cc)
-
--- the steps that are told at s are those that were told at u, and one for each answer
-pub record Counts (base : EndState) (values : List ℕ) (u s : Told) : Type 0 where
-  pub steps : s.steps ≡ u.steps + length values
-  pub raised : s.raised ≡ u.raised + raises_of base values
-  pub woke : s.woke ≡ u.woke + wakes_of base values
-
-pub record Going (base : EndState) (told told' : Option Told) (memory memory' : Option Memory) (m : EndMachine) (p buf : List ℕ) : Type 0 where
-  pub values : List ℕ
-  pub state : EndState
-  pub is_after : state ≡ afters base values
-  pub each : AreSteps base values
-  pub few : length values ≤ made_at m.stage m
-  pub machine : state.machine ≡ m
-  pub packet : state.packet ≡ kept_at m.stage p
-  pub copied : state.copied ≡ copied_at m.stage (take m.done buf)
-  pub wide : length buf ≡ m.cells
-  pub pages : state.pages ≡ pages_at m.stage m base.pages p buf
-  pub lists : Lists (call_at base.machine.stage) base.sent base.got base.past p m buf state.sent state.got state.past
-  pub moves : Moves base.machine m
-  pub form : is_formed m.stage m.ended ≡ true → Form m.len buf
-  pub silent : told ≡ None → told' ≡ None
-  pub tells : (u : Told) → told ≡ Some u → is_busy_at m.stage ≡ true → (s : Told) × (told' ≡ Some s) × Continues s.state m p × (entered s.state m p ≡ state) × Counts base values u s
-  pub ends : (u : Told) → told ≡ Some u → is_busy_at m.stage ≡ false → (told' ≡ Some (told_by base values state u)) × (m.stage ≢ Stopped)
-  pub runs : (k : Memory) → memory ≡ Some k → (k' : Memory) × (memory' ≡ Some k') × (run (length values) (pair base k) ≡ pair state k')
 
 pub going_first : (told : Option Told) (memory : Option Memory) (m : EndMachine) (p buf : List ℕ) (sent got : List (List ℕ)) (past : List (Event (List ℕ))) (k : Kept) → length buf ≡ m.cells → IsSound m → Starts m
     → ((u : Told) → told ≡ Some u → Continues u.state m p × (entered u.state m p ≡ shown m p buf sent got past k)) → Going (shown m p buf sent got past k) told told memory memory m p buf
@@ -376,46 +352,6 @@ going_honest base (Some t) told' memory memory' m p buf it n u e = (it.ends t re
 pub stored_wide : (b : Bool) (m k : EndMachine) (buf buf' : List ℕ) (v : ℕ) → length buf ≡ m.cells → k ≡ fed m v → buf' ≡ stored b buf m.done v → length buf' ≡ k.cells
 stored_wide b m k buf buf' v w e is =
     ap length is ∙ (at_cond (λ (xs : List ℕ). length xs ≡ length buf) b _ _ (λ _. length-set buf m.done v) (λ _. refl) ∙ (w ∙ (sym (fed_cells m v m.stage) ∙ ap (λ (x : EndMachine). x.cells) (sym e))))
-
-pub storing_busy : (st : Stage) → is_storing_at st ≡ true → is_busy_at st ≡ true
-storing_busy SendCell e = refl
-storing_busy _ e = absurd (cc)
-
-pub loading_busy : (st : Stage) → is_loading_at st ≡ true → is_busy_at st ≡ true
-loading_busy TakeCell e = refl
-loading_busy _ e = absurd (cc)
-
-pub first_busy : (st : Stage) → is_first_at st ≡ true → is_busy_at st ≡ true
-first_busy TakeFirst e = refl
-first_busy _ e = absurd (cc)
-
-pub asking_busy : (st : Stage) → is_asking_at st ≡ true → is_busy_at st ≡ true
-asking_busy SendRead e = refl
-asking_busy _ e = absurd (cc)
-
-pub seeking_busy : (st : Stage) → is_seeking_at st ≡ true → is_busy_at st ≡ true
-seeking_busy TakeWrite e = refl
-seeking_busy _ e = absurd (cc)
-
-pub giving_busy : (st : Stage) → is_giving_at st ≡ true → is_busy_at st ≡ true
-giving_busy CommitRead e = refl
-giving_busy _ e = absurd (cc)
-
-pub feature_busy : (st : Stage) → is_feature_at st ≡ true → is_busy_at st ≡ true
-feature_busy CommitFeature e = refl
-feature_busy _ e = absurd (cc)
-
-pub pending_busy : (st : Stage) → is_pending_at st ≡ true → is_busy_at st ≡ true
-pending_busy CommitPending e = refl
-pending_busy _ e = absurd (cc)
-
-pub writing_busy : (st : Stage) → is_writing_at st ≡ true → is_busy_at st ≡ true
-writing_busy SendWrite e = refl
-writing_busy _ e = absurd (cc)
-
-pub masking_busy : (st : Stage) → is_masking_at st ≡ true → is_busy_at st ≡ true
-masking_busy SendMask e = refl
-masking_busy _ e = absurd (cc)
 
 -- only a send sends, and only a take takes
 pub sent_calls : (how : Ending) → is_sent how ≡ true → call_by how ≡ Send

@@ -8,3 +8,4 @@ pub mod Loading
 pub mod Counts
 pub mod Lendable
 pub mod Laying
+pub mod Goings

@@ -1,14 +1,16 @@
 -- The steps of a call, and the call that a driver makes of them.
 use Rattle.std.specs.Prelude.{◌≡◌, ◌≢◌, ℕ, List, length, take, Option, Some, None, true, false}
-use Rattle.ring_core.specs.Pages.{kept_of}
+use Rattle.channel_trace.specs.declared.event.Event.{Event}
+use Rattle.page_kept.specs.declared.kept.Kept.{Kept}
 use Rattle.ring_core.specs.Told.{Left, Memory, answer_of, memory_after, told_at, told_next}
-use Rattle.ring_core.specs.declared.parts.Parts.{Parts}
 use Rattle.ring_core.specs.declared.told.Told.{Told}
+use Rattle.ring_machine.specs.EndCalls.{Take}
 use Rattle.ring_machine.specs.Endings.{Leaves}
 use Rattle.ring_machine.specs.Loops.{Starts}
 use Rattle.ring_machine.specs.States.{Continues, IsPacket, entered, got_by, pages_by, past_by, sent_by, shown, stored}
 use Rattle.ring_machine.specs.Steps.{call_at, call_by, fed, is_busy_at, is_copying_at, is_took, next_of}
 use Rattle.ring_machine.specs.declared.end_core.EndCore.{EndCore}
+use Rattle.ring_machine.specs.declared.machine.EndMachine.{EndMachine}
 use Rattle.ring_machine.specs.declared.machine.Stage.TheVariants.{Stopped}
 use Rattle.ring_machine.specs.declared.place.Op.{Op}
 use Rattle.ring_machine.specs.declared.state.EndState.{EndState}
@@ -34,28 +36,35 @@ pub record StepLeaves {S : Type 0} (cells_of : S → ℕ) (told : S → Option T
   pub tells : (u : Told) → told seat ≡ Some u → (told seat' ≡ Some (told_next (told_at u core.machine packet) v)) × ((fed core.machine v).stage ≢ Stopped)
   pub pages : core'.pages ≡ core.pages
 
--- the state at which a call begins, with this packet
-abbrev pub begun_at : {S : Type 0} → Parts S → List ℕ → EndState
-begun_at it packet = shown it.core.machine packet it.buf.items it.sent.list it.got.list it.past.events (kept_of it.core.pages it.sent it.got it.table)
+-- where the seat tells its end's state, the call that this machine has begun goes on, or begins, there, and then its end stands at this state
+abbrev pub BeginsAt : {S : Type 0} → (S → Option Told) → S → EndMachine → List ℕ → EndState → Type 0
+BeginsAt told seat m packet at = (u : Told) → told seat ≡ Some u → Continues u.state m packet × (entered u.state m packet ≡ at)
 
--- the machine has begun a call, and made no step of it. Where the seat tells its end's state, the call begins there
-pub record CanDrive {S : Type 0} (cells_of : S → ℕ) (told : S → Option Told) (it : Parts S) (packet : List ℕ) : Type 0 where
-  pub starts : Starts it.core.machine
-  pub fits : cells_of it.seat ≡ it.core.machine.cells
-  pub goes_on : (u : Told) → told it.seat ≡ Some u → Continues u.state it.core.machine packet × (entered u.state it.core.machine packet ≡ begun_at it packet)
+-- The machine has begun a call, and made no step of it, and the seat, the machine and the buffer are of one channel. Where the seat tells its end's state, the
+-- call begins there, with some lists, some past and some pages
+pub record CanDrive {S : Type 0} (cells_of : S → ℕ) (told : S → Option Told) (seat : S) (core : EndCore) (buf packet : List ℕ) : Type 0 where
+  pub starts : Starts core.machine
+  pub wide : length buf ≡ core.machine.cells
+  pub fits : cells_of seat ≡ core.machine.cells
+  pub sent : List (List ℕ)
+  pub got : List (List ℕ)
+  pub past : List (Event (List ℕ))
+  pub kept : Kept
+  pub begins : BeginsAt told seat core.machine packet (shown core.machine packet buf sent got past kept)
 
--- The steps of the call were made until it ended: the machine, the memory and what is told are as the steps left them, a packet that was taken stands in the
--- buffer, and the lists, the table and the past are as they were
-pub record DriveLeaves {S : Type 0} (cells_of : S → ℕ) (told : S → Option Told) (memory : S → Option Memory) (IsLater : S → S → Type 0) (old new : Parts S) (packet : List ℕ) : Type 0 where
-  pub call : call_by new.core.machine.ended ≡ call_at old.core.machine.stage
-  pub leaves : Leaves old.core.machine new.core.machine
-  pub took : is_took new.core.machine.ended ≡ true → IsPacket (take new.core.machine.len new.buf.items)
-  pub left : Left (begun_at old packet) (told old.seat) (told new.seat) (memory old.seat) (memory new.seat) new.core.machine
-      (sent_by new.core.machine old.sent.list packet) (got_by new.core.machine old.got.list new.buf.items) (past_by new.core.machine old.past.events packet new.buf.items)
-      (pages_by new.core.machine (kept_of old.core.pages old.sent old.got old.table) packet new.buf.items)
-  pub pages : new.core.pages ≡ old.core.pages
-  pub idle : is_busy_at new.core.machine.stage ≡ false
-  pub lists : (new.sent ≡ old.sent) × (new.got ≡ old.got) × (new.table ≡ old.table) × (new.past ≡ old.past)
-  pub same : IsLater old.seat new.seat
-  pub cells : cells_of new.seat ≡ new.core.machine.cells
-  pub honest : (u : Told) → told new.seat ≡ Some u → new.core.machine.stage ≢ Stopped
+-- The steps of the call were made until it ended: the machine, the memory and what is told are as the steps left them, whatever lists, past and pages the call
+-- began with; and a packet that was taken stands in the buffer, which else is as it was
+pub record DriveLeaves {S : Type 0} (cells_of : S → ℕ) (told : S → Option Told) (memory : S → Option Memory) (IsLater : S → S → Type 0) (seat seat' : S) (core core' : EndCore) (buf buf' packet : List ℕ) : Type 0 where
+  pub call : call_by core'.machine.ended ≡ call_at core.machine.stage
+  pub leaves : Leaves core.machine core'.machine
+  pub took : is_took core'.machine.ended ≡ true → IsPacket (take core'.machine.len buf')
+  pub left : (sent got : List (List ℕ)) (past : List (Event (List ℕ))) (kept : Kept) → BeginsAt told seat core.machine packet (shown core.machine packet buf sent got past kept)
+      → Left (shown core.machine packet buf sent got past kept) (told seat) (told seat') (memory seat) (memory seat') core'.machine
+      (sent_by core'.machine sent packet) (got_by core'.machine got buf') (past_by core'.machine past packet buf') (pages_by core'.machine kept packet buf')
+  pub pages : core'.pages ≡ core.pages
+  pub idle : is_busy_at core'.machine.stage ≡ false
+  pub words : (call_at core.machine.stage ≡ Take → ⊥) → buf' ≡ buf
+  pub wide : length buf' ≡ core'.machine.cells
+  pub same : IsLater seat seat'
+  pub cells : cells_of seat' ≡ core'.machine.cells
+  pub honest : (u : Told) → told seat' ≡ Some u → core'.machine.stage ≢ Stopped

@@ -10,3 +10,4 @@ pub mod Lending
 pub mod Tallies
 pub mod Drives
 pub mod Laying
+pub mod Going

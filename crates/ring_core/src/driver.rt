@@ -1,21 +1,25 @@
-//! The drivers of a call: the loops that make its steps.
+//! The drivers of a call: the loops that make its steps. They work for an end that keeps its packets, and for one that keeps none.
 ghost use Rattle.std.specs.Prelude.{◌≡◌, ◌<◌, true, false, length, Some, None};
 ghost use Rattle.ring_core.specs.Drives.{CanStep, StepLeaves};
+ghost use Rattle.ring_core.specs.Going.{MayGo, Goes, Keeps};
 ghost use Rattle.ring_machine.specs.Loops.{SendKeeps, TakeKeeps, CommitKeeps};
 ghost use Rattle.ring_machine.specs.States.{stored};
-ghost use Rattle.ring_machine.specs.Steps.{is_busy_at};
+ghost use Rattle.ring_machine.specs.Steps.{is_busy_at, is_copying_at, call_at};
 ghost use Rattle.ring_core.specs.Told.{Memory, memory_after, answer_of, told_page};
 ghost use Rattle.ring_core.specs.declared.told.Told.{Told};
 ghost use Rattle.ring_machine.specs.declared.place.Op.{Op};
 ghost use Rattle.ring_machine.specs.PageCalls.{is_paging, page_op, pages_fed, ContinuesPage};
 
-use crate::parts::Parts;
 use crate::seat::Seatlike;
-use crate::stages::{
-    is_asking, is_copying, is_feature, is_first, is_giving, is_loading, is_masking, is_pending,
-    is_seeking, is_storing, is_writing,
-};
-use ring_machine::EndCore;
+use ring_machine::{EndCore, Stage};
+
+// The step at this stage loads a word of a packet.
+#[inline(always)]
+fn is_copying(stage: Stage) -> bool
+    ensures { result ≡ is_copying_at stage }
+{
+    matches!(stage, Stage::TakeFirst | Stage::TakeCell)
+}
 
 // Copies a word into the buffer where the step loaded one of a packet.
 #[inline(always)]
@@ -82,6 +86,70 @@ fn step_apart<S: Seatlike>(
     step(seat, core, buf, packet)
 }
 
+// Whether a stage is this one, which is one of those that have a loop of their own. Where it is written out, the compiler knows the stage in such a loop, so that a step is a few instructions.
+#[inline(always)]
+fn is_at(stage: Stage, at: Stage) -> bool
+    ensures same { result ≡ true → stage ≡ at }
+    ensures busy { result ≡ true → is_busy_at at ≡ true }
+{
+    matches!(
+        (stage, at),
+        (Stage::SendRead, Stage::SendRead)
+            | (Stage::SendCell, Stage::SendCell)
+            | (Stage::SendWrite, Stage::SendWrite)
+            | (Stage::SendMask, Stage::SendMask)
+            | (Stage::TakeWrite, Stage::TakeWrite)
+            | (Stage::TakeFirst, Stage::TakeFirst)
+            | (Stage::TakeCell, Stage::TakeCell)
+            | (Stage::CommitRead, Stage::CommitRead)
+            | (Stage::CommitFeature, Stage::CommitFeature)
+            | (Stage::CommitPending, Stage::CommitPending)
+            | (Stage::ArmPending, Stage::ArmPending)
+            | (Stage::ArmMask, Stage::ArmMask)
+            | (Stage::ArmWrite, Stage::ArmWrite)
+            | (Stage::ArmRead, Stage::ArmRead)
+            | (Stage::ArmMark, Stage::ArmMark)
+            | (Stage::PollSignal, Stage::PollSignal)
+            | (Stage::PollMask, Stage::PollMask)
+            | (Stage::SendLook, Stage::SendLook)
+            | (Stage::SendRaise, Stage::SendRaise)
+    )
+}
+
+// Makes steps while the machine stands at this stage.
+#[inline(always)]
+fn steps_at<S: Seatlike>(
+    seat: &mut S,
+    core: &mut EndCore,
+    buf: &mut Vec<u64>,
+    packet: &[u64],
+    at: Stage,
+)
+    requires may { MayGo S.told S.memory seat.old core.old.machine packet.now buf.old.items }
+    requires fits { S.cells seat.old ≡ core.old.machine.cells }
+    ensures goes { Goes S.cells S.told S.memory S.same seat.old seat.new core.old.machine core.new.machine packet.now buf.old.items buf.new.items }
+    ensures keeps { Keeps (call_at at) core.old.machine core.new.machine }
+    ensures pages { core.new.pages ≡ core.old.pages }
+{
+    while is_at(core.machine.stage, at) {
+        step(seat, core, buf, packet);
+    }
+}
+
+// Makes steps until the call has ended.
+#[inline(always)]
+fn steps_on<S: Seatlike>(seat: &mut S, core: &mut EndCore, buf: &mut Vec<u64>, packet: &[u64])
+    requires may { MayGo S.told S.memory seat.old core.old.machine packet.now buf.old.items }
+    requires fits { S.cells seat.old ≡ core.old.machine.cells }
+    ensures goes { Goes S.cells S.told S.memory S.same seat.old seat.new core.old.machine core.new.machine packet.now buf.old.items buf.new.items }
+    ensures pages { core.new.pages ≡ core.old.pages }
+    ensures idle { is_busy_at core.new.machine.stage ≡ false }
+{
+    while core.is_busy() {
+        step_apart(seat, core, buf, packet);
+    }
+}
+
 // Writes back the fields that the frequent steps of a send change, where the others are the same.
 #[inline(always)]
 fn send_back(to: &mut EndCore, from: &EndCore)
@@ -137,95 +205,97 @@ fn commit_back(to: &mut EndCore, from: &EndCore)
 }
 
 /// A driver: it makes the steps of the call that the machine has begun, and the words that a take loads go into the buffer. Each driver makes any
-/// call. They differ only in which stages are frequent: those have loops of their own, over a copy of the machine that stays in registers, and in
-/// such a loop the stage is known, so that a step is a few instructions.
-pub(crate) trait Driver<S: Seatlike> {
+/// call. They differ only in which stages have loops of their own, the frequent ones of a send, a take and a commit over a copy of the machine that stays in
+/// registers.
+pub trait Driver<S: Seatlike> {
     ghost use Rattle.ring_core.specs.Drives.{CanDrive, DriveLeaves};
 
-    fn drive(parts: &mut Parts<S>, packet: &[u64])
-        requires { CanDrive S.cells S.told parts.old packet.now }
-        ensures { DriveLeaves S.cells S.told S.memory S.same parts.old parts.new packet.now };
+    /// Makes the steps of the call until it has ended. `buf` has a place for each cell of a ring; what is sent is `packet`, and else that is empty.
+    fn drive(seat: &mut S, core: &mut EndCore, buf: &mut Vec<u64>, packet: &[u64])
+        requires { CanDrive S.cells S.told seat.old core.old buf.old.items packet.now }
+        ensures { DriveLeaves S.cells S.told S.memory S.same seat.old seat.new core.old core.new buf.old.items buf.new.items packet.now };
 }
 
 /// For a send.
-pub(crate) struct SendLoops;
+pub struct SendLoops;
 
 impl<S: Seatlike> Driver<S> for SendLoops {
     #[inline(always)]
-    fn drive(parts: &mut Parts<S>, packet: &[u64]) {
-        let mut core = parts.core;
-        while is_asking(core.machine.stage) {
-            step(&mut parts.seat, &mut core, &mut parts.buf, packet);
-        }
-        while is_storing(core.machine.stage) {
-            step(&mut parts.seat, &mut core, &mut parts.buf, packet);
-        }
-        while is_writing(core.machine.stage) {
-            step(&mut parts.seat, &mut core, &mut parts.buf, packet);
-        }
-        while is_masking(core.machine.stage) {
-            step(&mut parts.seat, &mut core, &mut parts.buf, packet);
-        }
-        send_back(&mut parts.core, &core);
-        while parts.core.is_busy() {
-            step_apart(&mut parts.seat, &mut parts.core, &mut parts.buf, packet);
-        }
+    fn drive(seat: &mut S, core: &mut EndCore, buf: &mut Vec<u64>, packet: &[u64]) {
+        let mut fast = *core;
+        steps_at(seat, &mut fast, buf, packet, Stage::SendRead);
+        steps_at(seat, &mut fast, buf, packet, Stage::SendCell);
+        steps_at(seat, &mut fast, buf, packet, Stage::SendWrite);
+        steps_at(seat, &mut fast, buf, packet, Stage::SendMask);
+        send_back(core, &fast);
+        steps_at(seat, core, buf, packet, Stage::SendLook);
+        steps_at(seat, core, buf, packet, Stage::SendRaise);
+        steps_on(seat, core, buf, packet);
     }
 }
 
 /// For a take.
-pub(crate) struct TakeLoops;
+pub struct TakeLoops;
 
 impl<S: Seatlike> Driver<S> for TakeLoops {
     #[inline(always)]
-    fn drive(parts: &mut Parts<S>, packet: &[u64]) {
-        let mut core = parts.core;
-        while is_seeking(core.machine.stage) {
-            step(&mut parts.seat, &mut core, &mut parts.buf, packet);
-        }
-        while is_first(core.machine.stage) {
-            step(&mut parts.seat, &mut core, &mut parts.buf, packet);
-        }
-        while is_loading(core.machine.stage) {
-            step(&mut parts.seat, &mut core, &mut parts.buf, packet);
-        }
-        take_back(&mut parts.core, &core);
-        while parts.core.is_busy() {
-            step_apart(&mut parts.seat, &mut parts.core, &mut parts.buf, packet);
-        }
+    fn drive(seat: &mut S, core: &mut EndCore, buf: &mut Vec<u64>, packet: &[u64]) {
+        let mut fast = *core;
+        steps_at(seat, &mut fast, buf, packet, Stage::TakeWrite);
+        steps_at(seat, &mut fast, buf, packet, Stage::TakeFirst);
+        steps_at(seat, &mut fast, buf, packet, Stage::TakeCell);
+        take_back(core, &fast);
+        steps_on(seat, core, buf, packet);
     }
 }
 
 /// For a commit.
-pub(crate) struct CommitLoops;
+pub struct CommitLoops;
 
 impl<S: Seatlike> Driver<S> for CommitLoops {
     #[inline(always)]
-    fn drive(parts: &mut Parts<S>, packet: &[u64]) {
-        let mut core = parts.core;
-        while is_giving(core.machine.stage) {
-            step(&mut parts.seat, &mut core, &mut parts.buf, packet);
-        }
-        while is_feature(core.machine.stage) {
-            step(&mut parts.seat, &mut core, &mut parts.buf, packet);
-        }
-        while is_pending(core.machine.stage) {
-            step(&mut parts.seat, &mut core, &mut parts.buf, packet);
-        }
-        commit_back(&mut parts.core, &core);
-        while parts.core.is_busy() {
-            step_apart(&mut parts.seat, &mut parts.core, &mut parts.buf, packet);
-        }
+    fn drive(seat: &mut S, core: &mut EndCore, buf: &mut Vec<u64>, packet: &[u64]) {
+        let mut fast = *core;
+        steps_at(seat, &mut fast, buf, packet, Stage::CommitRead);
+        steps_at(seat, &mut fast, buf, packet, Stage::CommitFeature);
+        steps_at(seat, &mut fast, buf, packet, Stage::CommitPending);
+        commit_back(core, &fast);
+        steps_on(seat, core, buf, packet);
+    }
+}
+
+/// For an arm.
+pub struct ArmLoops;
+
+impl<S: Seatlike> Driver<S> for ArmLoops {
+    #[inline(always)]
+    fn drive(seat: &mut S, core: &mut EndCore, buf: &mut Vec<u64>, packet: &[u64]) {
+        steps_at(seat, core, buf, packet, Stage::ArmPending);
+        steps_at(seat, core, buf, packet, Stage::ArmMask);
+        steps_at(seat, core, buf, packet, Stage::ArmWrite);
+        steps_at(seat, core, buf, packet, Stage::ArmRead);
+        steps_at(seat, core, buf, packet, Stage::ArmMark);
+        steps_on(seat, core, buf, packet);
+    }
+}
+
+/// For a poll.
+pub struct PollLoops;
+
+impl<S: Seatlike> Driver<S> for PollLoops {
+    #[inline(always)]
+    fn drive(seat: &mut S, core: &mut EndCore, buf: &mut Vec<u64>, packet: &[u64]) {
+        steps_at(seat, core, buf, packet, Stage::PollSignal);
+        steps_at(seat, core, buf, packet, Stage::PollMask);
+        steps_on(seat, core, buf, packet);
     }
 }
 
 /// For the other calls.
-pub(crate) struct PlainLoop;
+pub struct PlainLoop;
 
 impl<S: Seatlike> Driver<S> for PlainLoop {
-    fn drive(parts: &mut Parts<S>, packet: &[u64]) {
-        while parts.core.is_busy() {
-            step_apart(&mut parts.seat, &mut parts.core, &mut parts.buf, packet);
-        }
+    fn drive(seat: &mut S, core: &mut EndCore, buf: &mut Vec<u64>, packet: &[u64]) {
+        steps_on(seat, core, buf, packet);
     }
 }

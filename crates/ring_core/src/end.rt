@@ -27,7 +27,7 @@ ghost use Rattle.ring_machine.specs.declared.last.SendRefusal.TheVariants.{Stopp
 ghost use Rattle.ring_machine.specs.declared.machine.Stage.TheVariants.{Idle, Stopped};
 ghost use Rattle.ring_core.specs.declared.told.Told.{Told};
 
-use crate::driver::{CommitLoops, PlainLoop, SendLoops, TakeLoops};
+use crate::driver::{ArmLoops, CommitLoops, PlainLoop, PollLoops, SendLoops, TakeLoops};
 use crate::packets::Packets;
 use crate::parts::Parts;
 use crate::room::Room;
@@ -354,7 +354,7 @@ impl<S: Seatlike> End<S> {
         ensures kept { Kept self.old self.new }
     {
         self.parts.core.begin_arm(want);
-        self.parts.make_call::<PlainLoop>(&[]);
+        self.parts.make_call::<ArmLoops>(&[]);
         self.parts.core.arm_answered()
     }
 
@@ -371,7 +371,7 @@ impl<S: Seatlike> End<S> {
         ensures kept { Kept self.old self.new }
     {
         self.parts.core.begin_poll();
-        self.parts.make_call::<PlainLoop>(&[]);
+        self.parts.make_call::<PollLoops>(&[]);
         !self.parts.core.machine.asleep
     }
 

@@ -11,14 +11,13 @@ mod room;
 mod rows;
 mod seat;
 mod solo_mem;
-mod stages;
 mod taken;
 mod tally;
 mod told;
 mod told_mem;
 mod words;
 
-pub use driver::step;
+pub use driver::{ArmLoops, CommitLoops, Driver, PlainLoop, PollLoops, SendLoops, TakeLoops};
 pub use end::End;
 pub use guards::{is_packet, may_begin, may_lend, may_send, may_take};
 pub use laws::refuses_by_value;

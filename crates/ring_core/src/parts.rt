@@ -224,7 +224,7 @@ impl<S: Seatlike> Parts<S> {
         ensures pages { S.pages self.new.seat ≡ self.new.core.pages.count }
         ensures honest { (u : Told) → S.told self.new.seat ≡ Some u → self.new.core.machine.stage ≢ Stopped }
     {
-        D::drive(self, packet);
+        D::drive(&mut self.seat, &mut self.core, &mut self.buf, packet);
         self.keep(packet);
     }
 

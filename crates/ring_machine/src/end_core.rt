@@ -248,9 +248,12 @@ impl EndCore {
         ensures rings { is_busy_at self.now.machine.stage ≡ true → result ≡ next_of self.now.machine packet.now }
         ensures whole { result ≡ next_in self.now.machine self.now.pages.call packet.now }
     {
-        match next_machine(&self.machine, packet) {
-            Some(op) => Some(op),
-            None => self.pages.next(),
+        match self.machine.stage {
+            Stage::Idle => self.pages.next(),
+            _ => match next_machine(&self.machine, packet) {
+                Some(op) => Some(op),
+                None => self.pages.next(),
+            },
         }
     }
 

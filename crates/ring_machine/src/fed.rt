@@ -388,8 +388,8 @@ fn fed_rest(mut m: EndMachine, v: u64) -> EndMachine
     m
 }
 
-/// Makes the machine what it is once its step has answered `v`: only the fields that change are written. The frequent stages come first, inlined
-/// into the driver's loops.
+/// Makes the machine what it is once its step has answered `v`: only the fields that change are written. The stages that a driver has loops for come
+/// first, inlined into those.
 #[inline(always)]
 pub(crate) fn feed_machine(m: &mut EndMachine, v: u64)
     requires { IsSound m.now }
@@ -406,6 +406,15 @@ pub(crate) fn feed_machine(m: &mut EndMachine, v: u64)
         Stage::CommitRead => fed_commit_read(m, v),
         Stage::CommitFeature => fed_commit_feature(m, v),
         Stage::CommitPending => fed_commit_pending(m, v),
+        Stage::ArmPending => m.stage = Stage::ArmMask,
+        Stage::ArmMask => fed_arm_mask(m),
+        Stage::ArmWrite => fed_arm_write(m, v),
+        Stage::ArmRead => fed_arm_read(m, v),
+        Stage::ArmMark => fed_arm_mark(m, v),
+        Stage::PollSignal => fed_poll_signal(m, v),
+        Stage::PollMask => fed_poll_mask(m),
+        Stage::SendLook => fed_send_look(m, v),
+        Stage::SendRaise => end(m, Ending::SentRaised),
         _ => *m = fed_rest(*m, v),
     }
 }

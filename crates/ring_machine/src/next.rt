@@ -84,7 +84,7 @@ fn next_rest(m: EndMachine, packet: &[u64]) -> Option<Op>
     }
 }
 
-/// The next step of a machine, or none exactly where no command is under way. The frequent stages come first, inlined into the driver's loops.
+/// The next step of a machine, or none exactly where no command is under way. The stages that a driver has loops for come first, inlined into those.
 #[inline(always)]
 pub(crate) fn next_machine(m: &EndMachine, packet: &[u64]) -> Option<Op>
     requires { IsSound m.now }
@@ -101,6 +101,15 @@ pub(crate) fn next_machine(m: &EndMachine, packet: &[u64]) -> Option<Op>
         Stage::CommitRead => Some(Op::Store(Place::Read(incoming(m.side)), 8 * m.read as u64)),
         Stage::CommitFeature => Some(Op::Load(Place::Feature(incoming(m.side)))),
         Stage::CommitPending => Some(Op::Load(Place::Pending(incoming(m.side)))),
+        Stage::ArmPending => Some(Op::Store(Place::Pending(outgoing(m.side)), m.want as u64)),
+        Stage::ArmMask => Some(Op::Store(Place::Mask(incoming(m.side)), 0)),
+        Stage::ArmWrite => Some(Op::Load(Place::Write(incoming(m.side)))),
+        Stage::ArmRead => Some(Op::Load(Place::Read(outgoing(m.side)))),
+        Stage::ArmMark => Some(Op::Load(Place::Mark(peer(m.side)))),
+        Stage::PollSignal => Some(Op::TakeSignal(m.side)),
+        Stage::PollMask => Some(Op::Store(Place::Mask(incoming(m.side)), 1)),
+        Stage::SendLook => Some(Op::Load(Place::Read(outgoing(m.side)))),
+        Stage::SendRaise => Some(Op::Raise(peer(m.side))),
         _ => next_rest(*m, packet),
     }
 }

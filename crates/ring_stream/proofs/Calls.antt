@@ -7,22 +7,20 @@ use Rattle.ring_machine.specs.declared.machine.Ending.{Ending}
 use Rattle.ring_machine.specs.declared.machine.Ending.TheVariants.{Fresh, SentQuiet, SentRaised, Full, BadPeer, Took, Empty, BadIndex, BadLength, BadOffset, CommittedQuiet, CommittedRaised, FellAsleep, FoundWork, NoSignal, Woke, Marked, PeerMarkDown, PeerMarkUp}
 use Rattle.ring_machine.specs.declared.machine.EndMachine.{EndMachine}
 use Rattle.ring_machine.specs.declared.machine.Stage.{Stage}
-use Rattle.ring_machine.specs.declared.machine.Stage.TheVariants.{Idle, Stopped, SendRead, SendCell, SendWrite, SendMask, SendLook, SendRaise, TakeFirst, TakeCell}
+use Rattle.ring_machine.specs.declared.machine.Stage.TheVariants.{Idle, Stopped, SendRead, SendCell, SendWrite, SendMask, SendLook, SendRaise}
 use Rattle.ring_machine.specs.declared.last.TakeRefusal.{TakeRefusal}
 use Rattle.ring_machine.specs.declared.last.Why.{Why}
 use Rattle.ring_machine.specs.declared.state.EndState.{EndState}
-use Rattle.ring_machine.specs.EndCalls.{EndCall, Send, Take, Arm}
+use Rattle.ring_machine.specs.EndCalls.{Send, Take, Arm}
 use Rattle.ring_machine.specs.Endings.{send_answer, take_refusal, why_by, why_of}
 use Rattle.ring_machine.specs.Places.{low, free, is_index, cell_of}
-use Rattle.page_kept.specs.declared.kept.Kept.{Kept}
 use Rattle.page_kept.specs.Kept.{no_pages}
-use Rattle.ring_machine.specs.States.{afters, got_by, pages_by, pages_by_ending, past_by, past_by_ending, resting, sent_by, stored}
-use Rattle.ring_machine.specs.Steps.{IsSound, arm_begun, call_at, call_by, fed_at, is_sent, is_took, is_broken, is_busy_at, is_copying_at}
+use Rattle.ring_machine.specs.States.{afters, pages_by_ending, past_by_ending, resting}
+use Rattle.ring_machine.specs.Steps.{IsSound, arm_begun, call_at, call_by, fed_at, is_sent, is_took, is_broken, is_busy_at}
 use Rattle.ring_machine.proofs.Sound.{at_cond}
 use Rattle.std.specs.Prelude.{Result}
 use Rattle.ring_core.specs.declared.told.Told.{Told}
-use Rattle.ring_core.specs.Told.{Left, Memory, Ran}
-use Rattle.ring_core.proofs.Driving.{Going, going_ran}
+use Rattle.ring_core.specs.Told.{Memory, Ran}
 use Rattle.ring_machine.specs.declared.last.Signalled.{Signalled}
 use Rattle.ring_machine.specs.declared.last.SendRefusal.{SendRefusal}
 use Rattle.ring_stream.specs.Driven.{sent_by_answer, found_by_send, left_by_send, LacksRoom, got_by_answer, found_by_take, left_by_take}
@@ -112,15 +110,6 @@ untook Woke n = refl
 untook Marked n = refl
 untook PeerMarkDown n = refl
 untook PeerMarkUp n = refl
-
--- only a take copies words into the buffer
-pub uncopied : (st : Stage) → (call_at st ≡ Take → ⊥) → is_copying_at st ≡ false
-uncopied TakeFirst n = absurd (n refl)
-uncopied TakeCell n = absurd (n refl)
-uncopied _ n = refl
-
-pub kept_on : (st : Stage) (call : EndCall) (buf from : List ℕ) (buf' : List ℕ) (i v : ℕ) → call_at st ≡ call → (call ≡ Take → ⊥) → buf ≡ from → buf' ≡ stored (is_copying_at st) buf i v → buf' ≡ from
-kept_on st call buf from buf' i v same n kept is = is ∙ (ap (λ (b : Bool). stored b buf i v) (uncopied st (λ e. n (sym same ∙ e))) ∙ kept)
 
 -- what a send answers
 pub answers_sent : (how : Ending) (m : EndMachine) (p : List ℕ) (ps : List (List ℕ)) → cond (is_sent how) (ps ++ p ∷ []) ps ≡ sent_by_answer (send_answer how m) p ps
@@ -335,14 +324,8 @@ send_lacks b m sent got past told told' memory memory' n r ran at len idle answe
     subst (LacksRoom n) (sym answer) (sends_lacking m.ended m n (finds_at n m m.stage idle ended))
 
 -- a channel without pages keeps none
-none_by : (how : Ending) (m : EndMachine) (p buf : List ℕ) → pages_by_ending how m no_pages p buf ≡ no_pages
+pub none_by : (how : Ending) (m : EndMachine) (p buf : List ℕ) → pages_by_ending how m no_pages p buf ≡ no_pages
 none_by SentQuiet m p buf = refl
 none_by SentRaised m p buf = refl
 none_by Took m p buf = refl
 none_by _ m p buf = refl
-
-pub going_bare : (base : EndState) (told told' : Option Told) (memory memory' : Option Memory) (m : EndMachine) (p buf : List ℕ) → Going base told told' memory memory' m p buf → IsSound m → is_busy_at m.stage ≡ false → base.pages ≡ no_pages
-    → Left base told told' memory memory' m (sent_by m base.sent p) (got_by m base.got buf) (past_by m base.past p buf) no_pages
-going_bare base told told' memory memory' m p buf it s n bare =
-    subst (λ (k : Kept). Left base told told' memory memory' m (sent_by m base.sent p) (got_by m base.got buf) (past_by m base.past p buf) k)
-    (ap (λ (k : Kept). pages_by m k p buf) bare ∙ none_by m.ended m p buf) (going_ran base told told' memory memory' m p buf it s n)

@@ -11,7 +11,10 @@ ghost use Rattle.ring_stream.specs.Driven.{broken, IsAwakeEnd, MakesSteps, sent_
 
 use crate::parts::{Parts, front};
 use channel_trace::Past;
-use ring_core::{Armed, EndCore, Seatlike, SendRefusal, Side, Signalled, TakeRefusal, Why};
+use ring_core::{
+    ArmLoops, Armed, CommitLoops, EndCore, PlainLoop, PollLoops, Seatlike, SendLoops, SendRefusal,
+    Side, Signalled, TakeLoops, TakeRefusal, Why,
+};
 use std::alloc::{AllocError, Global};
 use std::marker::Model;
 
@@ -125,7 +128,7 @@ impl<S: Seatlike> DriverEnd<S> {
             });
         }
         self.parts.core.begin_send(p.len() as u32);
-        self.parts.make_call(p);
+        self.parts.make_call::<SendLoops>(p);
         self.parts.core.send_answered()
     }
 
@@ -148,7 +151,7 @@ impl<S: Seatlike> DriverEnd<S> {
             });
         }
         self.parts.core.begin_take();
-        self.parts.make_call(&[]);
+        self.parts.make_call::<TakeLoops>(&[]);
         let answer = self.parts.core.take_answered();
         if answer.is_ok() {
             self.taken = self.parts.core.machine.len as usize;
@@ -169,7 +172,7 @@ impl<S: Seatlike> DriverEnd<S> {
         ensures same { S.same self.old.seat self.new.seat × IsAwakeEnd self.new.state × (self.new.state.machine.cells ≡ self.old.state.machine.cells) }
     {
         self.parts.core.begin_commit();
-        self.parts.make_call(&[]);
+        self.parts.make_call::<CommitLoops>(&[]);
         self.parts.core.commit_answered()
     }
 
@@ -188,7 +191,7 @@ impl<S: Seatlike> DriverEnd<S> {
         ensures same { S.same self.old.seat self.new.seat × (self.new.state.machine.cells ≡ self.old.state.machine.cells) × (self.new.state.machine.start ≡ self.new.state.machine.read) }
     {
         self.parts.core.begin_arm(want);
-        self.parts.make_call(&[]);
+        self.parts.make_call::<ArmLoops>(&[]);
         self.parts.core.arm_answered()
     }
 
@@ -204,7 +207,7 @@ impl<S: Seatlike> DriverEnd<S> {
         ensures same { S.same self.old.seat self.new.seat × (self.new.state.machine.cells ≡ self.old.state.machine.cells) × (self.new.state.machine.start ≡ self.old.state.machine.start) × (self.new.state.machine.read ≡ self.old.state.machine.read) }
     {
         self.parts.core.begin_poll();
-        self.parts.make_call(&[]);
+        self.parts.make_call::<PollLoops>(&[]);
         !self.parts.core.machine.asleep
     }
 
@@ -220,7 +223,7 @@ impl<S: Seatlike> DriverEnd<S> {
         ensures same { S.same self.old.seat self.new.seat × (self.new.state.machine.cells ≡ self.old.state.machine.cells) }
     {
         self.parts.core.begin_mark();
-        self.parts.make_call(&[]);
+        self.parts.make_call::<PlainLoop>(&[]);
     }
 
     /// The seat, at the end. Where the seat tells its end's state, that is this end's.

@@ -3,6 +3,5 @@
 
 mod driver_end;
 mod parts;
-mod stages;
 
 pub use driver_end::DriverEnd;

@@ -12,9 +12,8 @@ ghost use Rattle.ring_core.specs.Told.{Left};
 ghost use Rattle.ring_machine.specs.declared.machine.Stage.TheVariants.{Stopped};
 ghost use Rattle.ring_core.specs.declared.told.Told.{Told};
 
-use crate::stages::{is_asking, is_first, is_loading, is_seeking, is_storing};
 use channel_trace::Past;
-use ring_core::{EndCore, Ending, Seatlike, step};
+use ring_core::{Driver, EndCore, Ending, Seatlike};
 
 /// The machine, its seat, a buffer for one packet, and what the end did, which has no bytes.
 #[derive(Drop)]
@@ -34,45 +33,6 @@ pub(crate) fn front(buf: &Vec<u64>, n: usize) -> &[u64]
     ensures { result.now ≡ take n buf.now.items }
 {
     &buf[..n]
-}
-
-// Makes the steps of the call that the machine has begun, over a copy of the machine that stays in registers. The cells of a packet, of which there
-// are many, have loops of their own.
-fn drive<S: Seatlike>(parts: &mut Parts<S>, packet: &[u64])
-    requires starts { Starts parts.old.core.machine }
-    requires fits { S.cells parts.old.seat ≡ parts.old.core.machine.cells }
-    requires goes_on { (u : Told) → S.told parts.old.seat ≡ Some u → Continues u.state parts.old.core.machine packet.now × (entered u.state parts.old.core.machine packet.now ≡ shown parts.old.core.machine packet.now parts.old.buf.items (sent_of parts.old.past.events) (got_of parts.old.past.events) parts.old.past.events no_pages) }
-    ensures call { call_by parts.new.core.machine.ended ≡ call_at parts.old.core.machine.stage }
-    ensures leaves { Leaves parts.old.core.machine parts.new.core.machine }
-    ensures took { is_took parts.new.core.machine.ended ≡ true → IsPacket (take parts.new.core.machine.len parts.new.buf.items) }
-    ensures left { Left (shown parts.old.core.machine packet.now parts.old.buf.items (sent_of parts.old.past.events) (got_of parts.old.past.events) parts.old.past.events no_pages) (S.told parts.old.seat) (S.told parts.new.seat) (S.memory parts.old.seat) (S.memory parts.new.seat) parts.new.core.machine (sent_by parts.new.core.machine (sent_of parts.old.past.events) packet.now) (got_by parts.new.core.machine (got_of parts.old.past.events) parts.new.buf.items) (past_by parts.new.core.machine parts.old.past.events packet.now parts.new.buf.items) no_pages }
-    ensures idle { is_busy_at parts.new.core.machine.stage ≡ false }
-    ensures past { parts.new.past ≡ parts.old.past }
-    ensures buf { (call_at parts.old.core.machine.stage ≡ Take → ⊥) → parts.new.buf.items ≡ parts.old.buf.items }
-    ensures same { S.same parts.old.seat parts.new.seat }
-    ensures cells { S.cells parts.new.seat ≡ parts.new.core.machine.cells }
-    ensures honest { (u : Told) → S.told parts.new.seat ≡ Some u → parts.new.core.machine.stage ≢ Stopped }
-{
-    let mut core = parts.core;
-    while is_asking(core.machine.stage) {
-        step(&mut parts.seat, &mut core, &mut parts.buf, packet);
-    }
-    while is_storing(core.machine.stage) {
-        step(&mut parts.seat, &mut core, &mut parts.buf, packet);
-    }
-    while is_seeking(core.machine.stage) {
-        step(&mut parts.seat, &mut core, &mut parts.buf, packet);
-    }
-    while is_first(core.machine.stage) {
-        step(&mut parts.seat, &mut core, &mut parts.buf, packet);
-    }
-    while is_loading(core.machine.stage) {
-        step(&mut parts.seat, &mut core, &mut parts.buf, packet);
-    }
-    parts.core = core;
-    while parts.core.is_busy() {
-        step(&mut parts.seat, &mut parts.core, &mut parts.buf, packet);
-    }
 }
 
 impl<S: Seatlike> Parts<S> {
@@ -113,8 +73,9 @@ impl<S: Seatlike> Parts<S> {
         }
     }
 
-    /// Makes the call that the machine has begun, and notes what it did.
-    pub(crate) fn make_call(&mut self, packet: &[u64])
+    /// Makes the call that the machine has begun by this driver, and notes what it did.
+    #[inline(always)]
+    pub(crate) fn make_call<D: Driver<S>>(&mut self, packet: &[u64])
         requires starts { Starts self.old.core.machine }
         requires fits { S.cells self.old.seat ≡ self.old.core.machine.cells }
         requires goes_on { (u : Told) → S.told self.old.seat ≡ Some u → Continues u.state self.old.core.machine packet.now × (entered u.state self.old.core.machine packet.now ≡ shown self.old.core.machine packet.now self.old.buf.items (sent_of self.old.past.events) (got_of self.old.past.events) self.old.past.events no_pages) }
@@ -132,7 +93,7 @@ impl<S: Seatlike> Parts<S> {
         ensures cells { S.cells self.new.seat ≡ self.new.core.machine.cells }
         ensures honest { (u : Told) → S.told self.new.seat ≡ Some u → self.new.core.machine.stage ≢ Stopped }
     {
-        drive(self, packet);
+        D::drive(&mut self.seat, &mut self.core, &mut self.buf, packet);
         self.note(packet);
     }
 }
