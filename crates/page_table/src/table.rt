@@ -1,5 +1,6 @@
 //! The pages of one end.
 ghost use Rattle.std.specs.Prelude.{◌≡◌, ◌≢◌, ℕ, ◌+◌, ◌*◌, ◌/◌, ◌<◌, ◌≤◌, true, false, length, replicate, slice_get, slice_index_or, slice_set, Option, Some, None, IfOk, IfSome, IsTrue, MatchOption};
+ghost use Rattle.std.specs.List.{splice};
 ghost use Rattle.page_kept.specs.Items.{values};
 ghost use Rattle.page_kept.specs.declared.kept.Kept.{Kept};
 ghost use Rattle.page_kept.specs.Kept.{pages_sent, pages_took, is_held, is_lent};
@@ -120,6 +121,16 @@ impl PageTable {
         ensures { self.new ≡ record self.old { copy = slice_set self.old.copy (512 * page + word) value } }
     {
         self.copy[WORDS * page as usize + word as usize] = value;
+    }
+
+    /// The first words of a page become these.
+    pub fn set_words(&mut self, page: u32, words: &[u64])
+        requires page { page < length self.old.owners }
+        requires words { length words.now ≤ 512 }
+        ensures { self.new ≡ record self.old { copy = splice self.old.copy (512 * page) (512 * page + length words.now) words.now } }
+    {
+        let from = WORDS * page as usize;
+        self.copy[from..from + words.len()].copy_from_slice(words);
     }
 
     /// The part of a page that goes along with a packet, if that is sent now: the page that is held under a completion's id, and what any other packet names.

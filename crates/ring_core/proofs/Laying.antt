@@ -4,7 +4,6 @@ use Rattle.std.specs.Prelude.{IfSome}
 use Rattle.std.proofs.lemmas.Bool.Decides.{nat_tests}
 use Rattle.std.proofs.lemmas.List.{get_or-set_same, get_or-set_other, length-take-le, take-append-le}
 use Rattle.std.proofs.Math.Seq.{take-length, take-suc}
-use Rattle.io_edge.specs.declared.side.Side.{Side}
 use Rattle.page_kept.specs.declared.kept.Kept.{Kept}
 use Rattle.page_kept.specs.declared.owner.Owner.{Owner}
 use Rattle.page_kept.specs.declared.owner.Owner.TheVariants.{Lent, Held, Away}
@@ -12,7 +11,7 @@ use Rattle.page_kept.specs.declared.page_call.PageCall.TheVariants.{StoreWord}
 use Rattle.page_kept.specs.Items.{item_of, values}
 use Rattle.page_kept.specs.Keepers.{CanStore, MayStore}
 use Rattle.page_kept.specs.Kept.{copy_in, first_page, gives_back, is_held, lends_out, lent_words, pages_sent, with_sent}
-use Rattle.page_kept.specs.Layouts.{Layout, Loan, layout}
+use Rattle.page_kept.specs.Layouts.{Loan, layout}
 use Rattle.page_kept.specs.Stepped.{page_stored}
 use Rattle.page_table.specs.declared.loan.Loan.{Loan as Part}
 use Rattle.page_table.specs.Table.{IsPart, loan_of, loans, held_part, part_in}
@@ -43,9 +42,6 @@ memory_more d q w n (x ∷ xs) v m e = memory_more d q (w + 1) n xs v (memory_af
 pub stored_is : (k : Kept) (q w : ℕ) (xs : List ℕ) → stored_all k q w xs ≡ record { count = k.count; sent = k.sent; got = k.got; owners = k.owners; copy = (stored_all k q w xs).copy; due = k.due; call = k.call }
 stored_is k q w [] = refl
 stored_is k q w (x ∷ xs) = stored_is (page_stored k q w x) q (w + 1) xs
-
-pub may_stays : (l : Layout) (x : Side) (k : Kept) (q w r : ℕ) (xs : List ℕ) → MayStore l x k q w → MayStore l x (stored_all k r 0 xs) q w
-may_stays l x k q w r xs m = subst (λ (z : Kept). MayStore l x z q w) (sym (stored_is k r 0 xs)) (record { clear = m.clear; page = m.page; word = m.word; owns = m.owns })
 
 -- the stores, one by one
 pub stores_first : (s : EndState) (q : ℕ) (told : Option Told) (memory : Option Memory) → ((u : Told) → told ≡ Some u → u.state ≡ s) → RanStores s s q [] told told memory memory

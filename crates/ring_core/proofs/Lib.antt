@@ -9,3 +9,4 @@ pub mod Counts
 pub mod Lendable
 pub mod Laying
 pub mod Goings
+pub mod Stores

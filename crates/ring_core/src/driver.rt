@@ -53,6 +53,7 @@ pub fn step<S: Seatlike>(
 }
 
 /// Makes the one step of the page call that the machine is in, by the seat, feeds the machine what it gave, and answers that.
+#[inline(always)]
 pub fn page_step<S: Seatlike>(seat: &mut S, core: &mut EndCore) -> u64
     requires rests { is_busy_at core.old.machine.stage ≡ false }
     requires call { is_paging core.old.pages.call ≡ true }
@@ -68,7 +69,7 @@ pub fn page_step<S: Seatlike>(seat: &mut S, core: &mut EndCore) -> u64
     ensures tells { (u : Told) → S.told seat.old ≡ Some u → S.told seat.new ≡ Some (told_page u core.old.pages.call result) }
 {
     let v = seat.perform(core, &[]);
-    core.feed(v);
+    core.feed_page();
     v
 }
 

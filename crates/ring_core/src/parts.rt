@@ -284,9 +284,17 @@ impl<S: Seatlike> Parts<S> {
         ensures same { S.same self.old.seat self.new.seat }
         ensures seat { (S.cells self.new.seat ≡ self.new.core.machine.cells) × (S.pages self.new.seat ≡ self.new.core.pages.count) }
     {
-        for word in 0..words.len() as u32 {
-            self.store_word(page, word, words[word as usize]);
+        self.table.lends_in_bounds();
+        if words.is_empty() {
+            return;
         }
+        // The steps are made by a copy of the machine, which stays in registers. Each of them leaves it as it was.
+        let mut core = self.core;
+        for word in 0..words.len() as u32 {
+            core.begin_page_store(page, word, words[word as usize]);
+            page_step(&mut self.seat, &mut core);
+        }
+        self.table.set_words(page, words);
     }
 
     /// Loads the words of a page that are due, and keeps them in the copy and with the packet that was taken last: one step a word.

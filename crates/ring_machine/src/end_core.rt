@@ -195,6 +195,7 @@ impl EndCore {
 
     /// Begins to store a word of a page of the channel. Whether its end has the page, or holds it and the word is lent, the machine doesn't know.
     #[tactic(auto, using(crate::proofs::Fitting::fit_store))]
+    #[inline(always)]
     pub fn begin_page_store(&mut self, page: u32, word: u32, v: u64)
         requires idle { self.old.machine.stage ≡ Idle }
         requires unmarked { self.old.machine.marked ≡ false }
@@ -270,6 +271,18 @@ impl EndCore {
             Stage::Idle => self.pages.feed(),
             _ => feed_machine(&mut self.machine, v),
         }
+    }
+
+    /// As `feed`, where the step is that of a page call: the rings stay as they are.
+    #[tactic(auto, using(crate::proofs::Fitting::fit_on, crate::proofs::Fitting::fit_fed))]
+    #[inline(always)]
+    pub fn feed_page(&mut self)
+        requires rests { is_busy_at self.old.machine.stage ≡ false }
+        requires call { is_paging self.old.pages.call ≡ true }
+        ensures machine { self.new.machine ≡ self.old.machine }
+        ensures pages { self.new.pages ≡ pages_fed self.old.pages }
+    {
+        self.pages.feed();
     }
 }
 
