@@ -2,23 +2,23 @@
 ghost use Rattle.std.specs.Prelude.{◌≡◌, ◌+◌, ◌<◌, ◌≤◌, ◌++◌, [], length};
 ghost use Rattle.std.specs.List.{AllByRecursion};
 
+use arrayvec::ArrayVec;
 use std::marker::Model;
 
 /// At most `N` bytes, held in place. Contracts see the list of them.
 #[derive(Drop)]
 pub struct Held<const N: usize> {
-    len: usize,
-    items: [u8; N],
+    items: ArrayVec<u8, N>,
 }
 
 impl<const N: usize> Model for Held<N> {
-    ghost use Rattle.std.specs.Prelude.{List, ℕ, ◌≡◌, ◌≤◌, length, take};
+    ghost use Rattle.std.specs.Prelude.{List, ℕ, ◌≤◌, length};
 
     ghost Value = { List ℕ };
 
-    ghost view = { λ h. take h.len h.items };
+    ghost view = { λ h. h.items.items };
 
-    ghost invariant = { λ h. (h.len ≤ N) × (length h.items ≡ N) };
+    ghost invariant = { λ h. length h.items.items ≤ N };
 }
 
 impl<const N: usize> Held<N> {
@@ -27,8 +27,7 @@ impl<const N: usize> Held<N> {
         ensures { result ≡ [] }
     {
         Held {
-            len: 0,
-            items: [0; N],
+            items: ArrayVec::new(),
         }
     }
 
@@ -49,7 +48,7 @@ impl<const N: usize> Held<N> {
         ensures most { length result.now ≤ N }
         ensures bytes { AllByRecursion (λ b. b < 256) self.now }
     {
-        let bytes = &self.items[..self.len];
+        let bytes = self.items.as_slice();
         are_bytes(bytes);
         bytes
     }
@@ -58,10 +57,7 @@ impl<const N: usize> Held<N> {
     pub fn again(&self) -> Held<N>
         ensures { result ≡ self.now }
     {
-        Held {
-            len: self.len,
-            items: self.items,
-        }
+        Held::of(self.bytes())
     }
 
     /// Puts more bytes at the end.
@@ -70,12 +66,10 @@ impl<const N: usize> Held<N> {
         ensures value { self.new ≡ self.old ++ bytes.now }
         ensures bytes { AllByRecursion (λ b. b < 256) self.new }
     {
-        let len = self.len;
-        let end = len + bytes.len();
-        let items = &mut self.items[..];
-        items[len..end].copy_from_slice(bytes);
-        self.len = end;
-        are_bytes(&self.items[..end]);
+        let Ok(()) = self.items.try_extend_from_slice(bytes) else {
+            unreachable!()
+        };
+        are_bytes(self.items.as_slice());
     }
 }
 

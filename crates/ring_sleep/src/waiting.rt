@@ -4,12 +4,9 @@ ghost use Rattle.ring_machine.specs.declared.machine.Stage.TheVariants.{Idle};
 ghost use Rattle.ring_sleep.specs.Sleeping.{Sleeps};
 
 use crate::parks::Parks;
+use crossbeam_utils::Backoff;
 use ring_core::End;
-use std::hint;
 use std::sync::Wait;
-
-// How often an end looks at its signal before its thread is parked.
-const SPINS: u32 = 256;
 
 /// Waits until the signal of an end that is asleep was up, and takes it. When it returns the end is awake, and did nothing else. It polls, and parks its thread
 /// between two polls once it has spun for a while. That a signal comes isn't promised.
@@ -19,10 +16,18 @@ pub fn sleep<S: Parks, R: Wait>(e: &mut End<S>, rt: &R)
     ensures awake { (e.new.state.machine.asleep ≡ false) × (e.new.state.machine.marked ≡ false) }
     ensures slept { Sleeps S.channel S.told e.old e.new }
 {
-    if spin(e) {
-        return;
+    let backoff = Backoff::new();
+    for _ in rt.forever() {
+        if poll(e) {
+            return;
+        }
+        if backoff.is_completed() {
+            e.seat().park(rt);
+        } else {
+            backoff.snooze();
+        }
     }
-    park(e, rt);
+    unreachable!()
 }
 
 // One poll of an end that is asleep.
@@ -34,37 +39,4 @@ fn poll<S: Parks>(e: &mut End<S>) -> bool
     ensures slept { Sleeps S.channel S.told e.old e.new }
 {
     e.poll_signal()
-}
-
-// Polls a few times.
-fn spin<S: Parks>(e: &mut End<S>) -> bool
-    requires idle { e.old.state.machine.stage ≡ Idle }
-    requires asleep { e.old.state.machine.asleep ≡ true }
-    ensures asleep { e.new.state.machine.asleep ≡ not result }
-    ensures unmarked { result ≡ true → e.new.state.machine.marked ≡ false }
-    ensures slept { Sleeps S.channel S.told e.old e.new }
-{
-    for _i in 0..SPINS {
-        if poll(e) {
-            return true;
-        }
-        hint::spin_loop();
-    }
-    false
-}
-
-// Polls, and parks between two polls.
-fn park<S: Parks, R: Wait>(e: &mut End<S>, rt: &R)
-    requires idle { e.old.state.machine.stage ≡ Idle }
-    requires asleep { e.old.state.machine.asleep ≡ true }
-    ensures awake { (e.new.state.machine.asleep ≡ false) × (e.new.state.machine.marked ≡ false) }
-    ensures slept { Sleeps S.channel S.told e.old e.new }
-{
-    for _ in rt.forever() {
-        if poll(e) {
-            return;
-        }
-        e.seat().park(rt);
-    }
-    unreachable!()
 }

@@ -3,7 +3,7 @@
 
 mod cut;
 mod fault;
-mod hex;
+mod hex_digits;
 mod name;
 mod number;
 mod run;
@@ -12,7 +12,7 @@ mod version;
 
 pub use cut::{first_line, first_word};
 pub use fault::{ParseFault, ScriptFault, Why6};
-pub use hex::{
+pub use hex_digits::{
     address_of, are_bytes, byte_of, count_bytes, hex_2, hex_8, is_address, is_byte, is_oid, oid_of,
     put_bytes,
 };

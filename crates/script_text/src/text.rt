@@ -3,7 +3,7 @@ ghost use Rattle.std.specs.Prelude.{◌≡◌, ◌≤◌, ◌++◌, ◌+◌, ◌
 ghost use Rattle.std.specs.Fmt.{decimal};
 ghost use Rattle.script_text.specs.Runs.{runs_of, run_text, runs_text};
 
-use crate::hex::hex_2;
+use crate::hex_digits::hex_2;
 use crate::run::{Run, split_run};
 use itoa::Buffer;
 use std::alloc::AllocError;

@@ -1,22 +1,27 @@
 -- Reading and spelling big-endian numbers.
-use Rattle.std.proofs.Common.{◌≡◌, ℕ, ◌+◌, ◌*◌, ◌^◌, ◌<◌, List, length, get_or, take, add-one, lit<, arith}
-use Rattle.std.proofs.lemmas.List.Sums.{fold_more}
-use Rattle.std.proofs.Math.Nat.{pow-suc, pow-le-pow_right}
+use Rattle.std.proofs.Common.{◌≡◌, ℕ, ◌<◌, ◌+◌, ◌*◌, ◌^◌, List, [], ◌∷◌, length, ap, refl, arith}
+use Rattle.std.specs.Prelude.{fold}
 use Rattle.std.specs.Int.{to_be_bytes, w16, w32, w64}
+use Rattle.std.proofs.Math.Nat.{add-mul, mul_assoc, mul_comm, pow-suc}
+use Rattle.byteorder.specs.Endian.{big_from, big_number}
+use Rattle.byteorder.specs.Numbers.{big_from-cons}
 use Rattle.scsi_disk.specs.BigEndian.{be_number}
 
--- one more byte
-pub be_number_more : (bytes : List ℕ) (i : ℕ) → i < length bytes → be_number (take (i + 1) bytes) ≡ be_number (take i bytes) * 256 + get_or bytes i 0
+folded : (xs : List ℕ) (a : ℕ) → fold (λ n b. n * 256 + b) a xs ≡ a * 256 ^ length xs + big_from 0 (length xs) xs
+folded [] a = omega arith
+folded (x ∷ xs) a =
+    let p = 256 ^ length xs in
+    rw (pow-suc 256 (length xs), big_from-cons 0 (length xs) x xs)
+    (omega (arith, folded xs (a * 256 + x), add-mul (a * 256) x p, mul_assoc a 256 p, ap (λ k. a * k) (mul_comm 256 p)))
+
+pub as_big : (xs : List ℕ) → be_number xs ≡ big_number (length xs) xs
 unfolding be_number
-be_number_more bytes i lt = fold_more (λ n b. n * 256 + b) 0 bytes i 0 lt
+as_big xs = omega (arith, folded xs 0)
 
--- a number of fewer than 8 bytes leaves room for one byte more
-pub room_for_byte : (n i : ℕ) → n < 256 ^ i → i < 8 → n * 256 + 255 < 2 ^ 64
-room_for_byte n i small lt = omega (arith, small, pow-le-pow_right {n = 256} (lit< tt) {i = i} {j = 7} (omega arith))
-
--- and stays below the next power
-pub small_more : (n i b : ℕ) → n < 256 ^ i → b < 256 → n * 256 + b < 256 ^ (i + 1)
-small_more n i b small byte = rw (add-one i, pow-suc 256 i) (omega (arith, small, byte))
+pub none : (xs : List ℕ) → length xs ≡ 0 → 0 ≡ be_number xs
+unfolding be_number
+none [] e = refl
+none (x ∷ xs) e = absurd (omega arith)
 
 -- reading undoes spelling
 pub be_number-to_be_bytes_8 : (v : ℕ) → v < 2 ^ 64 → be_number (to_be_bytes w64 v) ≡ v

@@ -1,10 +1,10 @@
 //! Numbers in hexadecimal digits.
 ghost use Rattle.std.specs.Prelude.{◌≡◌, ◌<◌, ◌*◌, ◌/◌, ◌%◌, true, length};
 ghost use Rattle.std.specs.List.{list_all};
-ghost use Rattle.script_text.specs.Forms.{is_hex, is_byte, hex_value, byte_of, are_bytes, bytes_of, is_address, hex_after, is_oid, oid_of};
+ghost use Rattle.script_text.specs.Forms.{is_hex, is_byte, byte_of, are_bytes, bytes_of, is_address, hex_after, is_oid, oid_of};
 ghost use Rattle.script_text.specs.Hex.{hex_digit, hex_2, hex_8};
 
-use crate::number::is_digit;
+use hex::FromHex;
 
 fn hex_digit(n: u8) -> u8
     requires { n < 16 }
@@ -48,7 +48,7 @@ pub fn hex_8(n: u32) -> [u8; 8]
 fn is_hex(c: u8) -> bool
     ensures { result ≡ is_hex c }
 {
-    is_digit(c) || b'a' <= c && c <= b'f' || b'A' <= c && c <= b'F'
+    c.is_ascii_hexdigit()
 }
 
 /// Whether a word is two digits of either case.
@@ -61,18 +61,16 @@ pub fn is_byte(word: &[u8]) -> bool
     }
 }
 
-fn hex_value(c: u8) -> u8
-    requires { is_hex c ≡ true }
-    ensures value { result ≡ hex_value c }
-    ensures small { result < 16 }
+/// The bytes that twice as many digits write.
+fn decoded<const N: usize>(digits: &[u8]) -> [u8; N]
+    requires digits { list_all is_hex digits.now ≡ true }
+    requires places { length digits.now ≡ 2 * N }
+    ensures { result ≡ bytes_of digits.now }
 {
-    if c <= b'9' {
-        c - b'0'
-    } else if c <= b'F' {
-        c - b'A' + 10
-    } else {
-        c - b'a' + 10
-    }
+    let Ok(bytes) = <[u8; N]>::from_hex(digits) else {
+        unreachable!()
+    };
+    bytes
 }
 
 /// The byte that two digits write.
@@ -80,10 +78,7 @@ pub fn byte_of(word: &[u8]) -> u8
     requires { is_byte word.now ≡ true }
     ensures { result ≡ byte_of word.now }
 {
-    match word {
-        [high, low] => 16 * hex_value(*high) + hex_value(*low),
-        _ => 0,
-    }
+    decoded::<1>(word)[0]
 }
 
 fn are_hex(word: &[u8]) -> bool
@@ -114,13 +109,9 @@ pub fn put_bytes(word: &[u8], out: &mut [u8])
     requires places { length word.now ≡ 2 * length out.old }
     ensures { out.new ≡ bytes_of word.now }
 {
-    let mut rest = word;
-    let mut at = 0;
-    while let [high, low, after @ ..] = rest {
-        out[at] = 16 * hex_value(*high) + hex_value(*low);
-        at += 1;
-        rest = after;
-    }
+    let Ok(()) = hex::decode_to_slice(word, out) else {
+        unreachable!()
+    };
 }
 
 /// Whether a word is the address of a network card: 12 digits of either case.
@@ -135,9 +126,7 @@ pub fn address_of(word: &[u8]) -> [u8; 6]
     requires { is_address word.now ≡ true }
     ensures { result ≡ bytes_of word.now }
 {
-    let mut address = [0; 6];
-    put_bytes(word, &mut address);
-    address
+    decoded(word)
 }
 
 /// The number of 32 bits that 8 digits write.
@@ -146,13 +135,7 @@ fn hex_number(digits: &[u8]) -> u32
     requires digits { list_all is_hex digits.now ≡ true }
     ensures { result ≡ hex_after 0 digits.now }
 {
-    let mut n: u32 = 0;
-    let mut rest = digits;
-    while let [digit, after @ ..] = rest {
-        n = 16 * n + u32::from(hex_value(*digit));
-        rest = after;
-    }
-    n
+    u32::from_be_bytes(decoded(digits))
 }
 
 /// Whether a word is the number of an object of a network card: `0x` and 8 digits of either case.

@@ -1,6 +1,6 @@
 use Rattle.std.proofs.Common.{◌≡◌, true}
 use Rattle.ring_sleep.specs.Sleeping.{Sleeps}
-use Rattle.ring_sleep.proofs.waiting.park.Given as goal
+use Rattle.ring_sleep.proofs.waiting.sleep.Given as goal
 
 abbrev pub invariant-loop : goal.invariant-loop
 invariant-loop g l = record {
