@@ -3,6 +3,7 @@ use Rattle.std.proofs.Common.{◌≡◌, List, [], ◌∷◌, ◌++◌, length, 
 use Rattle.std.proofs.lemmas.List.{append-nil, length-map}
 use Rattle.channel_trace.specs.Runs.{IsFront}
 use Rattle.device_formats.specs.Items.{said_item}
+use Rattle.device_formats.specs.declared.buffer_lists.BufferLists.{BufferLists}
 use Rattle.io_edge.specs.declared.side.Side.{Side}
 use Rattle.io_edge.specs.declared.side.Side.TheVariants.{Guest, Host}
 use Rattle.ring_pair_laws.specs.Lists.{Lists}
@@ -25,16 +26,16 @@ front_all {A} f xs ys front same =
     sym (front.1 ∙ (ap (λ (l : List A). xs ++ l) (none_by front.0 long) ∙ append-nil xs))
 
 -- the end that asks got as many as the other one sent
-settled_at : (side : Side) (order : Order) (lists : Lists) (served : List Served) → ItemsArrive order lists → Carries side order lists served → items_got side lists ≡ items_sent (other side) lists
-settled_at Guest order lists served arrive run = front_all said_item (items_got Guest lists) (items_sent Host lists) arrive.at_guest run.answers_got
-settled_at Host order lists served arrive run = front_all said_item (items_got Host lists) (items_sent Guest lists) arrive.at_host run.answers_got
+settled_at : (side : Side) (order : Order) (tells : BufferLists) (lists : Lists) (served : List Served) → ItemsArrive order lists → Carries side order tells lists served → items_got side lists ≡ items_sent (other side) lists
+settled_at Guest order tells lists served arrive run = front_all said_item (items_got Guest lists) (items_sent Host lists) arrive.at_guest run.answers_got
+settled_at Host order tells lists served arrive run = front_all said_item (items_got Host lists) (items_sent Guest lists) arrive.at_host run.answers_got
 
 pub arrives_lem : Arrives
 arrives_lem order lists served run = record {
   at_host = run.arrive.at_host;
   at_guest = run.arrive.at_guest;
   whole = run.arrive.whole;
-  settled = settled_at (side_that_asks order.kind) order lists served run.arrive run.carried;
+  settled = settled_at (side_that_asks order.kind) order run.tells lists served run.arrive run.carried;
 }
 
 pub serves_each_lem : ServesEach

@@ -9,7 +9,7 @@ use Rattle.io_edge.specs.declared.side.Side.TheVariants.{Guest, Host}
 use Rattle.ring_pair_laws.specs.Lists.{Lists}
 use Rattle.script_lines.specs.declared.line.Ask.{Ask}
 use Rattle.device_formats.specs.declared.want.Want.TheVariants.{Script}
-use Rattle.device_formats.specs.Wants.{IsAskable}
+use Rattle.device_formats.specs.Wants.{IsAskable, no_lists}
 use Rattle.device_formats.specs.Formats.{format_of, fits_on, asked_as}
 use Rattle.device_formats.proofs.ChannelScriptLaws.{few_starts}
 use Rattle.device_formats.proofs.FormatLaws.{keeps, start_is_fixed, script_asks, asked_is}
@@ -61,17 +61,17 @@ all_items : (is : List Item) → items_of (packets is) is ≡ is
 all_items [] = refl
 all_items (i ∷ is) = ap (λ (l : List Item). i ∷ l) (all_items is)
 
-plan_made : (order : Order) (served : List Served) → Suits order served → Made said_item (format_of order.kind) (keeps order.kind) (reads_so order.kind) (plan_of order) served
+plan_made : (order : Order) (served : List Served) → Suits order served → Made said_item (format_of order.kind) (keeps order.kind) (reads_so order.kind) (plan_of no_lists order) served
 plan_made order served suits =
     let long : length (map Script order.asks) ≡ length order.asks = length-map order.asks Script in
-    let starts : length (startup_of order) ≤ 5 = few_starts order.kind order.sub order.subs in
+    let starts : length (startup_of no_lists order) ≤ 5 = few_starts order.kind order.sub order.subs no_lists in
     let all : count_of order.stop (length (map Script order.asks)) ≡ count_of order.stop (length order.asks) = ap (count_of order.stop) long in
-    made said_item (format_of order.kind) (keeps order.kind) (reads_so order.kind) (plan_of order) served
-    (record { fixed = start_is_fixed order.kind order.sub order.subs; asks = script_asks order.kind order.asks suits.can })
-    (omega (arith, starts, long, suits.few, length-append (startup_of order) (map Script order.asks)))
+    made said_item (format_of order.kind) (keeps order.kind) (reads_so order.kind) (plan_of no_lists order) served
+    (record { fixed = start_is_fixed order.kind order.sub order.subs no_lists; asks = script_asks order.kind order.asks suits.can })
+    (omega (arith, starts, long, suits.few, length-append (startup_of no_lists order) (map Script order.asks)))
     (count_few order.stop (length (map Script order.asks)))
-    (subst (λ n. Fit said_item (format_of order.kind) (keeps order.kind) (reads_so order.kind) n (1 + length (startup_of order)) (map Script order.asks) served) (sym all)
-    (fit order.kind (served_count order) (1 + length (startup_of order)) order.asks served suits.can suits.serves suits.fits))
+    (subst (λ n. Fit said_item (format_of order.kind) (keeps order.kind) (reads_so order.kind) n (1 + length (startup_of no_lists order)) (map Script order.asks) served) (sym all)
+    (fit order.kind (served_count order) (1 + length (startup_of no_lists order)) order.asks served suits.can suits.serves suits.fits))
 
 agree : (order : Order) → count_of order.stop (length (map Script order.asks)) ≡ served_count order
 agree order = ap (count_of order.stop) (length-map order.asks Script)
@@ -90,11 +90,11 @@ read_as : (side : Side) (sent back : List Item) → AllSo said_item sent → All
 read_as Guest sent back so too = record { sent_is = read_so sent so; got_is = read_so back too; other_sent = read_so back too; other_got = read_so sent so }
 read_as Host sent back so too = record { sent_is = read_so sent so; got_is = read_so back too; other_sent = read_so back too; other_got = read_so sent so }
 
-carries : (side : Side) (order : Order) (served : List Served) → (m : Made said_item (format_of order.kind) (keeps order.kind) (reads_so order.kind) (plan_of order) served) → Carries side order (lists_of side m.sent m.back) served
+carries : (side : Side) (order : Order) (served : List Served) → (m : Made said_item (format_of order.kind) (keeps order.kind) (reads_so order.kind) (plan_of no_lists order) served) → Carries side order no_lists (lists_of side m.sent m.back) served
 carries side order served m =
     let read = read_as side m.sent m.back m.sent_so m.back_so in
-    let Of : List Item × List Item × List Item × List Item → Type 0 = λ l. IsProtocolRun (format_of order.kind) (plan_of order) l.0 l.1 l.2 l.3 served (map (λ c. c.reply) (replies_to order served)) in
-    let run : IsProtocolRun (format_of order.kind) (plan_of order) m.sent m.back m.back m.sent served (map (λ c. c.reply) (replies_to order served)) = record {
+    let Of : List Item × List Item × List Item × List Item → Type 0 = λ l. IsProtocolRun (format_of order.kind) (plan_of no_lists order) l.0 l.1 l.2 l.3 served (map (λ c. c.reply) (replies_to order served)) in
+    let run : IsProtocolRun (format_of order.kind) (plan_of no_lists order) m.sent m.back m.back m.sent served (map (λ c. c.reply) (replies_to order served)) = record {
       front = m.runs.front;
       whole_got = m.runs.whole_got;
       answers_got = m.runs.answers_got;
@@ -129,9 +129,10 @@ channel_made order served suits =
     let read = read_as side m.sent m.back m.sent_so m.back_so in (
       lists,
       record {
+        tells = no_lists;
         carried = carried;
         alone = alone_at side order.kind m.sent m.back read m.alone;
-        serves = serves_first_lem side order lists served suits.can carried;
+        serves = serves_first_lem side order no_lists lists served suits.can carried;
         arrive = arrive_at side order m.sent m.back;
         turns = turn_at order m.sent m.back read m.turns;
       },

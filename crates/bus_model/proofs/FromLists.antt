@@ -14,8 +14,10 @@ use Rattle.bus_script.specs.declared.outcome.LineResult.TheVariants.{Unserved as
 use Rattle.bus_script.specs.declared.outcome.Reply.{Reply}
 use Rattle.device_formats.specs.declared.want.Want.{Want}
 use Rattle.device_formats.specs.declared.want.Want.TheVariants.{Script}
-use Rattle.device_formats.specs.Wants.{IsAskable}
+use Rattle.device_formats.specs.Wants.{IsAskable, no_lists}
+use Rattle.device_formats.specs.declared.buffer_lists.BufferLists.{BufferLists}
 use Rattle.device_formats.specs.Formats.{format_of, read_on, asked_as}
+use Rattle.device_formats.proofs.ChannelScriptLaws.{same_starts}
 use Rattle.device_formats.proofs.FormatLaws.{keeps, start_is_fixed, asked_is}
 use Rattle.channel_model.specs.Asker.{Encoded}
 use Rattle.channel_model.specs.Channel.{AllFixed, count_of, IsProtocolRun}
@@ -84,19 +86,20 @@ take_front [] rest (suc n) e = absurd (cc)
 take_front (x ∷ xs) rest zero e = absurd (cc)
 take_front (x ∷ xs) rest (suc n) e = ap (λ l. x ∷ l) (take_front xs rest n (omega (arith, e)))
 
-first_asked : (order : Order) (sent got server_sent server_got : List Item) (served : List Served) (told : List Reply) → AllByRecursion (IsAskable order.kind) order.asks
-    → IsProtocolRun (format_of order.kind) (plan_of order) sent got server_sent server_got served told → map (λ s. s.request) served ≡ take (served_count order) (asked_under (script_ids order sent) order.asks)
-first_asked order sent got server_sent server_got served told can run =
+first_asked : (order : Order) (tells : BufferLists) (sent got server_sent server_got : List Item) (served : List Served) (told : List Reply) → AllByRecursion (IsAskable order.kind) order.asks
+    → IsProtocolRun (format_of order.kind) (plan_of tells order) sent got server_sent server_got served told → map (λ s. s.request) served ≡ take (served_count order) (asked_under (script_ids order sent) order.asks)
+first_asked order tells sent got server_sent server_got served told can run =
     let requests = filter (format_of order.kind).is_request sent in
     let read : filter_map (read_on order.kind) sent ≡ asked_under (script_ids order sent) order.asks =
-    read_requests order.kind sent ∙ plan_read order.kind (startup_of order) order.asks requests (start_is_fixed order.kind order.sub order.subs) can run.requests in
+    read_requests order.kind sent ∙ (plan_read order.kind (startup_of tells order) order.asks requests (start_is_fixed order.kind order.sub order.subs tells) can run.requests
+    ∙ ap (λ n. asked_under (map (format_of order.kind).id_of (drop n requests)) order.asks) (same_starts order.kind order.sub order.subs tells no_lists)) in
     let whole : asked_under (script_ids order sent) order.asks ≡ map (λ (s : Served). s.request) served ++ run.asked.0 = sym read ∙ run.asked.1 in
     let count : length (map (λ (s : Served). s.request) served) ≡ served_count order = length-map served (λ s. s.request) ∙ (run.count ∙ ap (count_of order.stop) (length-map order.asks Script)) in
     sym (ap (take (served_count order)) whole ∙ take_front (map (λ (s : Served). s.request) served) run.asked.0 (served_count order) count)
 
 pub serves_first_lem : ServesFirst
-serves_first_lem Guest order lists served can run = first_asked order _ _ _ _ served _ can run
-serves_first_lem Host order lists served can run = first_asked order _ _ _ _ served _ can run
+serves_first_lem Guest order tells lists served can run = first_asked order tells _ _ _ _ served _ can run
+serves_first_lem Host order tells lists served can run = first_asked order tells _ _ _ _ served _ can run
 
 -- requests of other kinds than a network's are the same under each id
 

@@ -1,5 +1,5 @@
--- What is written on a channel of each kind is as it is read: what no page words go along with, and of a disk's channel what its packets say.
-use Rattle.std.proofs.Common.{◌≡◌, ℕ, Bool, true, false, cond, ◌&&◌, List, [], ◌∷◌, ◌++◌, length, Option, Some, None, refl, subst, sym, arith}
+-- What is written on a channel of each kind is as it is read: what no page words go along with, and of a disk's and a network's channel what their packets say.
+use Rattle.std.proofs.Common.{◌≡◌, ℕ, Bool, true, false, cond, ◌&&◌, List, [], ◌∷◌, ◌++◌, length, Option, Some, None, refl, subst, sym, arith, ◌<◌, ◌^◌, ap}
 use Rattle.std.specs.Prelude.{is_none}
 use Rattle.std.proofs.lemmas.List.{take_all}
 use Rattle.page_kept.specs.declared.item.Item.{Item}
@@ -15,12 +15,20 @@ use Rattle.device_formats.specs.declared.want.Want.{Want}
 use Rattle.device_formats.specs.Codecs.{alone, format_by}
 use Rattle.device_formats.specs.Formats.{format_of}
 use Rattle.device_formats.specs.Items.{said_item}
-use Rattle.device_formats.specs.Kinds.{disk_reply, disks, nets, services}
-use Rattle.device_formats.specs.Nets.{net_format}
+use Rattle.device_formats.specs.Kinds.{disk_reply, disks, net_reply, net_request, nets, services}
+use Rattle.device_formats.specs.Nets.{net_fits}
+use Rattle.device_formats.specs.PageNets.{message_of, net_ack, net_fixed, net_gives, net_read}
 use Rattle.device_formats.specs.PageDisks.{page_answer, page_fixed, page_read, page_waits}
 use Rattle.device_formats.specs.Services.{service_codec}
 use Rattle.device_formats.proofs.PageFormatLaws.{disk_replies, replied_is, said_answered, said_asked, said_fixed_so}
+use Rattle.device_formats.proofs.AmongLaws.{replied_so}
+use Rattle.device_formats.proofs.NetLaws.{fits_parts}
+use Rattle.device_formats.proofs.NetPageLaws.{of_fixed, said_acked, said_back, said_fixed, said_given, said_asked as said_net_asked}
 use Rattle.device_formats.proofs.SaidLaws.{said_bare}
+use Rattle.rndis_msg.specs.declared.rndis.Rndis.{Rndis}
+use Rattle.net_dev.specs.declared.reply.NetReply.{NetReply}
+use Rattle.net_dev.specs.Station.{initialize_reply}
+use Rattle.script_lines.specs.declared.line.Ask.TheVariants.{Net as AskNet}
 use Rattle.bus_model.proofs.Made.{AllSo, ReadsSo}
 
 -- a message and an answer without page words
@@ -68,8 +76,35 @@ disk_so = record {
   acked = λ i. acked_so i;
 }
 
+-- a network's messages, each in its page, and its completions
+net_messages : (own : ℕ) (o : Option Rndis) (rest : List Item) → AllSo said_item rest → AllSo said_item (listed (under_own own (message_of o)) ++ rest)
+net_messages own None rest h = h
+net_messages own (Some m) rest h = (said_back own m, h)
+
+net_back_so : (own : ℕ) (i : Item) (r : NetReply) → r.status < 2 ^ 32 → AllSo said_item (packets_of own (net_gives i r))
+net_back_so own i r small = net_messages own r.back ((net_gives i r).answer ∷ []) (said_given i (net_gives i r).answer r small refl, tt)
+
+net_given_so : (i : Item) (q : Ask) (r : Reply) (own : ℕ) → (format_of Net).read i ≡ Some q → (format_of Net).fits q r ≡ true → AllSo said_item (packets_of own (net_gives i (or_else nets.other (net_reply r))))
+net_given_so i q r own h fits =
+    let x = replied_so net_fits AskNet net_request (λ y. refl) (net_read i) q (net_request q) (net_reply r) refl h fits in
+    subst (λ (o : NetReply). AllSo said_item (packets_of own (net_gives i o))) (sym (ap (or_else nets.other) x.is)) (net_back_so own i x.replied (fits_parts x.asked x.replied x.holds).0)
+
+net_fixed_so : (i : Item) (own : ℕ) (o : Option (Back Item)) → net_fixed i ≡ o → AllSo said_item (packets_in own o)
+net_fixed_so i own None is = tt
+net_fixed_so i own (Some b) is =
+    of_fixed (λ (x : Back Item). (x.answer.packet ≡ x.answer.packet → said_item x.answer ≡ x.answer) → AllSo said_item (packets_of own x)) i b
+    (λ h. (h refl, tt)) (λ h. (h refl, tt)) (λ h. (h refl, tt)) (λ request_id h. (said_back own (initialize_reply request_id), (h refl, tt))) (λ h. (h refl, tt)) is (said_fixed i b.answer b is)
+
+net_so : ReadsSo said_item (format_of Net)
+net_so = record {
+  asks = said_net_asked;
+  given = λ i q r own h fits. net_given_so i q r own h fits;
+  fixed = λ i own. net_fixed_so i own (net_fixed i) refl;
+  acked = λ i. said_acked i (net_ack i) refl;
+}
+
 pub reads_so : (kind : DeviceKind) → ReadsSo said_item (format_of kind)
 reads_so Beat = bare_so (lift (format_by (service_codec Beat)) services)
 reads_so Down = bare_so (lift (format_by (service_codec Down)) services)
 reads_so Disk = disk_so
-reads_so Net = bare_so (lift net_format nets)
+reads_so Net = net_so

@@ -16,6 +16,8 @@ use Rattle.script_lines.specs.declared.line.Ask.{Ask}
 use Rattle.bus_script.specs.declared.outcome.Reply.{Reply}
 use Rattle.channel_model.specs.WireFormat.{WireFormat}
 use Rattle.device_formats.specs.declared.want.Want.{Want}
+use Rattle.device_formats.specs.declared.buffer_lists.BufferLists.{BufferLists}
+use Rattle.device_formats.specs.Wants.{no_lists}
 use Rattle.channel_model.specs.Channel.{count_of, held_of, IsProtocolRun}
 use Rattle.channel_model.specs.Roles.{side_that_asks}
 use Rattle.channel_model.specs.Server.{answered}
@@ -59,16 +61,16 @@ is_held order = held_of order.stop (length order.asks)
 abbrev pub replies_to : Order → List Served → List Served
 replies_to order served = answered (format_of order.kind) (is_held order) (served_count order) served
 
--- What the end that asks and the end that serves sent and got is the run of the order's plan, with these calls: what was sent was got, as it was sent, in packets with their page words as they are read; the
+-- What the end that asks and the end that serves sent and got is the run of the order's plan, where these page lists are told, with these calls: what was sent was got, as it was sent, in packets with their page words as they are read; the
 -- packets of the one end ask the start-up's and the script's requests, in order; the packets of the other end answer them, in order, with what was served.
 -- Where the service stops, requests after the stop may be missing, and the last answer where it is held
-abbrev pub Carries : Side → Order → Lists → List Served → Type 0
-Carries asks_at order lists served =
-    IsProtocolRun (format_of order.kind) (plan_of order) (sent_by asks_at lists) (got_by asks_at lists) (sent_by (other asks_at) lists) (got_by (other asks_at) lists) served (map (λ c. c.reply) (replies_to order served))
+abbrev pub Carries : Side → Order → BufferLists → Lists → List Served → Type 0
+Carries asks_at order tells lists served =
+    IsProtocolRun (format_of order.kind) (plan_of tells order) (sent_by asks_at lists) (got_by asks_at lists) (sent_by (other asks_at) lists) (got_by (other asks_at) lists) served (map (λ c. c.reply) (replies_to order served))
 
--- the ids of the packets that ask the script's requests, in order
+-- the ids of the packets that ask the script's requests, in order: those behind the start-up, which has as many steps whatever page lists it tells
 abbrev pub script_ids : Order → List Item → List ℕ
-script_ids order sent = map (format_of order.kind).id_of (drop (length (startup_of order)) (filter (format_of order.kind).is_request sent))
+script_ids order sent = map (format_of order.kind).id_of (drop (length (startup_of no_lists order)) (filter (format_of order.kind).is_request sent))
 
 -- what a device is asked by requests under these ids: a message for an adapter that has a request id has that of its packet, and any other request is as it stands in the script
 abbrev pub asked_under : List ℕ → List Ask → List Ask
@@ -98,16 +100,18 @@ asks_under s t p = s.is_request p && (s.waits p && (s.id_of p == t))
 abbrev pub answers_under : WireFormat Item Want Ask Reply → ℕ → Item → Bool
 answers_under s t p = s.is_answer p && (s.id_of p == t)
 
--- Under each id the end that asks sent at most one request more than answers came: no two requests without an answer have one id. A disk's request lends the page of its id, or none, so no page is
+-- Under each id the end that asks sent at most one request more than answers came: no two requests without an answer have one id. A request of a disk or of a network lends the page of its id, or none, so no page is
 -- lent by two requests that aren't completed; one whose completion wasn't taken, as where a rescind came first, isn't used again
 abbrev pub InTurn : Order → Lists → Type 0
 InTurn order lists =
     (t : ℕ) → count_by (asks_under (format_of order.kind) t) (sent_by (side_that_asks order.kind) lists) ≤ count_by (answers_under (format_of order.kind) t) (got_by (side_that_asks order.kind) lists) + 1
 
 -- and what was served are the first of these requests, in order: all of them where it doesn't stop. The end that asks sent nothing but requests and what
--- acknowledges messages. Page words arrive as they were put there, and ids are used in turn
+-- acknowledges messages. Page words arrive as they were put there, and ids are used in turn. On a network's channel the
+-- start-up told these page lists
 pub record IsChannelRun (order : Order) (lists : Lists) (served : List Served) : Type 0 where
-  pub carried : Carries (side_that_asks order.kind) order lists served
+  pub tells : BufferLists
+  pub carried : Carries (side_that_asks order.kind) order tells lists served
   pub alone : AllByRecursion (λ p. is_of_asker order.kind p ≡ true) (sent_by (side_that_asks order.kind) lists)
   pub serves : map (λ s. s.request) served ≡ take (served_count order) (asked_by (side_that_asks order.kind) order lists)
   pub arrive : ItemsArrive order lists

@@ -12,7 +12,8 @@ use Rattle.bus_script.specs.declared.outcome.LineResult.{LineResult}
 use Rattle.bus_script.specs.declared.outcome.LineResult.TheVariants.{Version, Done, RescindedServed, Unserved, Modified, Unsupported, Gone, Closed}
 use Rattle.bus_script.specs.declared.outcome.Reply.{Reply}
 use Rattle.bus_script.specs.Report.{prints}
-use Rattle.device_formats.specs.Wants.{IsAskable}
+use Rattle.device_formats.specs.Wants.{IsAskable, no_lists}
+use Rattle.device_formats.specs.declared.buffer_lists.BufferLists.{BufferLists}
 use Rattle.device_formats.specs.Formats.{format_of, fits_on}
 use Rattle.io_edge.specs.declared.side.Side.{Side}
 use Rattle.io_edge.specs.declared.side.Side.TheVariants.{Guest, Host}
@@ -44,7 +45,7 @@ ServesEach = (order : Order) (lists : Lists) (served : List Served) → IsChanne
 
 -- what was served follows from what was carried: the first requests, where all can be asked
 abbrev pub ServesFirst : Type 0
-ServesFirst = (side : Side) (order : Order) (lists : Lists) (served : List Served) → AllByRecursion (IsAskable order.kind) order.asks → Carries side order lists served → map (λ s. s.request) served ≡ take (served_count order) (asked_by side order lists)
+ServesFirst = (side : Side) (order : Order) (tells : BufferLists) (lists : Lists) (served : List Served) → AllByRecursion (IsAskable order.kind) order.asks → Carries side order tells lists served → map (λ s. s.request) served ≡ take (served_count order) (asked_by side order lists)
 
 -- where the device is no network's, it is asked what stands in the script, whatever the ids are
 abbrev pub AsksAsScripted : Type 0
@@ -155,7 +156,7 @@ CarriesOpened = (lines : List Line) (settled : List ChannelRun) (histories : Lis
 pub record Suits (order : Order) (served : List Served) : Type 0 where
   pub can : AllByRecursion (IsAskable order.kind) order.asks
   pub few : length order.asks ≤ 4096
-  pub serves : map (λ c. c.request) served ≡ take (served_count order) (asked_under (range_with_len (1 + length (startup_of order)) (length order.asks)) order.asks)
+  pub serves : map (λ c. c.request) served ≡ take (served_count order) (asked_under (range_with_len (1 + length (startup_of no_lists order)) (length order.asks)) order.asks)
   pub fits : AllByRecursion (λ (c : Served). fits_on order.kind c.request c.reply ≡ true) served
 
 -- then some channel carried it: no field of a channel's run excludes another one, wherever its service stops

@@ -9,6 +9,7 @@ use Rattle.script_phases.specs.Shares.{share}
 use Rattle.device_formats.specs.declared.want.Want.{Want}
 use Rattle.device_formats.specs.declared.want.Want.TheVariants.{Script}
 use Rattle.device_formats.specs.Wants.{startup}
+use Rattle.device_formats.specs.declared.buffer_lists.BufferLists.{BufferLists}
 use Rattle.channel_model.specs.Channel.{RequestPlan}
 
 -- a channel's kind, its number among the device's channels, how many sub-channels that has, its requests, and where its service stops: after some of
@@ -30,10 +31,10 @@ order_of p o = record {
   stop = stop_of o.device p.part;
 }
 
--- what its start-up asks: that of a disk's first channel asks for the sub-channels in the end, and a sub-channel has none
-abbrev pub startup_of : Order → List Want
-startup_of order = startup order.kind order.sub order.subs
+-- what its start-up asks: that of a disk's first channel asks for the sub-channels in the end, that of a network's tells the page lists of its buffers, and a sub-channel has none
+abbrev pub startup_of : BufferLists → Order → List Want
+startup_of tells order = startup order.kind order.sub order.subs tells
 
 -- what the end that asks has to ask, and where the other one stops
-abbrev pub plan_of : Order → RequestPlan Want
-plan_of order = record { start = startup_of order; script = map Script order.asks; stop = order.stop }
+abbrev pub plan_of : BufferLists → Order → RequestPlan Want
+plan_of tells order = record { start = startup_of tells order; script = map Script order.asks; stop = order.stop }

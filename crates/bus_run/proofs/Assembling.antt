@@ -1,5 +1,6 @@
 -- What the channels of a phase come to, from what was opened, ran and was closed.
-use Rattle.std.proofs.Common.{◌≡◌, ℕ, suc, ◌+◌, ◌*◌, ◌<◌, ◌≤◌, ◌==◌, Bool, true, false, cond, List, [], ◌∷◌, ◌++◌, length, length-append, refl, ap, sym, ◌∙◌, subst, arith, Some, None}
+use Rattle.vmbus_msg.specs.declared.msg.Msg.{Msg}
+use Rattle.std.proofs.Common.{◌≡◌, ℕ, suc, ◌+◌, ◌*◌, ◌<◌, ◌≤◌, ◌==◌, Bool, true, false, cond, List, [], ◌∷◌, ◌++◌, length, length-append, refl, ap, sym, ◌∙◌, subst, arith, Some}
 use Rattle.std.specs.Prelude.{map, filter, sum, All}
 use Rattle.std.specs.List.{AllByRecursion}
 use Rattle.std.proofs.lemmas.List.{append-nil, get_or_default}
@@ -35,13 +36,13 @@ use Rattle.bus_run.proofs.ServedLines.{no_more}
 
 -- the channels ran
 
-each_ran : (settings : List Settings) (old : List DeviceBox) (given : List Given) (pairs : List Pairing) (dones : List PairDone) → EachWith (OpensAt settings old) given pairs → EachRuns pairs dones → EachWith (RanAt old) given dones
-each_ran settings old [] [] [] each runs = tt
-each_ran settings old [] [] (d ∷ dones) each runs = absurd runs
-each_ran settings old [] (q ∷ pairs) dones each runs = absurd each
-each_ran settings old (g ∷ given) [] dones each runs = absurd each
-each_ran settings old (g ∷ given) (q ∷ pairs) [] each runs = absurd runs
-each_ran settings old (g ∷ given) (q ∷ pairs) (d ∷ dones) each runs = (runs.0.runs (order_at old g.order) g.seat [] each.0.opens, each_ran settings old given pairs dones each.1 runs.1)
+each_ran : (posted : List Msg) (settings : List Settings) (old : List DeviceBox) (given : List Given) (pairs : List Pairing) (dones : List PairDone) → EachWith (OpensAt posted settings old) given pairs → EachRuns pairs dones → EachWith (RanAt old) given dones
+each_ran posted settings old [] [] [] each runs = tt
+each_ran posted settings old [] [] (d ∷ dones) each runs = absurd runs
+each_ran posted settings old [] (q ∷ pairs) dones each runs = absurd each
+each_ran posted settings old (g ∷ given) [] dones each runs = absurd each
+each_ran posted settings old (g ∷ given) (q ∷ pairs) [] each runs = absurd runs
+each_ran posted settings old (g ∷ given) (q ∷ pairs) (d ∷ dones) each runs = (runs.0.runs (order_at old g.order) g.seat [] each.0.opens, each_ran posted settings old given pairs dones each.1 runs.1)
 
 all_within : (plan : List ChannelOrder) (old : List DeviceBox) → AllByRecursion (CanOpen old) plan → AllByRecursion (λ x. x.opening.device < length old) plan
 all_within [] old can = tt
@@ -64,9 +65,9 @@ dues_within : (old : List DeviceBox) (plan : List ChannelOrder) → AllByRecursi
 dues_within old [] low = tt
 dues_within old (x ∷ plan) low = (low.0, dues_within old plan low.1)
 
-pub all_come : (settings : List Settings) (plan : List ChannelOrder) (old before boxes : List DeviceBox) (pairs : List Pairing) (dones : List PairDone) → CanOpenAll plan old → AreAway plan old before → (all : AllOpened settings plan old before boxes pairs) → EachRuns pairs dones
+pub all_come : (posted : List Msg) (settings : List Settings) (plan : List ChannelOrder) (old before boxes : List DeviceBox) (pairs : List Pairing) (dones : List PairDone) → CanOpenAll plan old → AreAway plan old before → (all : AllOpened posted settings plan old before boxes pairs) → EachRuns pairs dones
     → AllCome (map due_of plan) old all.opened.given boxes dones
-all_come settings plan old before boxes pairs dones can away all runs =
+all_come posted settings plan old before boxes pairs dones can away all runs =
     let opened = all.opened in
     let within = all_within plan old can.each in
     record {
@@ -75,7 +76,7 @@ all_come settings plan old before boxes pairs dones can away all runs =
       places = opened.places ∙ away.count;
       fits = all_fit old before boxes opened.given (λ k less. (opened.still k (omega (arith, less, away.count))).kind)
           (given_within old opened.given (subst (AllByRecursion (λ (x : ChannelOrder). x.opening.device < length old)) (sym opened.planned) within)) opened.fits;
-      ran = each_ran settings old opened.given pairs dones opened.opens runs;
+      ran = each_ran posted settings old opened.given pairs dones opened.opens runs;
       none_here = λ k less. all.none_left k (omega (arith, less, away.count));
     }
 
@@ -95,10 +96,10 @@ comes_back old before boxes [] given kept away still dealt same = (still.stays a
 comes_back old before boxes (q ∷ quotas) given kept away still dealt same =
     (kind_opened boxes (kind_of (spec_of old)) (still.kind ∙ away.0), still.subs ∙ away.1, subst (AreSeatsFor old (q ∷ quotas)) dealt away.2, same)
 
-pub all_back : (settings : List Settings) (phase most : ℕ) (plan : List ChannelOrder) (old before between boxes : List DeviceBox) (pairs : List Pairing) (settled settled' : List ChannelRun) (outcomes : List (List (List LineResult))) → All (IsReady (4096 * most)) old
-    → AreAway plan old before → (all : AllOpened settings plan old before between pairs) → AllClosed phase old all.opened.given between boxes settled settled' outcomes
+pub all_back : (posted : List Msg) (settings : List Settings) (phase most : ℕ) (plan : List ChannelOrder) (old before between boxes : List DeviceBox) (pairs : List Pairing) (settled settled' : List ChannelRun) (outcomes : List (List (List LineResult))) → All (IsReady (4096 * most)) old
+    → AreAway plan old before → (all : AllOpened posted settings plan old before between pairs) → AllClosed phase old all.opened.given between boxes settled settled' outcomes
     → AllBack old (λ k. quotas_of k plan) (λ k. seats_given k all.opened.given) boxes
-all_back settings phase most plan old before between boxes pairs settled settled' outcomes ready away all closed =
+all_back posted settings phase most plan old before between boxes pairs settled settled' outcomes ready away all closed =
     let opened = all.opened in
     record {
       count = closed.places ∙ (opened.places ∙ away.count);
@@ -202,8 +203,8 @@ each_grows place channels (o ∷ old) (n ∷ new) count goes =
       ap (λ s. s ∷ map setup_of new) first.setup ∙ ap (λ l. setup_of o ∷ l) more.2,
     )
 
-module _ (settings : List Settings) (phase : ℕ) (plan : List ChannelOrder) (p : Phase) (old before between boxes new : List DeviceBox) (pairs : List Pairing) (settled settled' : List ChannelRun) (outcomes : List (List (List LineResult)))
-    (can : CanRun phase plan old p) (away : AreAway plan old before) (all : AllOpened settings plan old before between pairs) (closed : AllClosed phase old all.opened.given between boxes settled settled' outcomes) (whole : AreWhole old boxes new) where
+module _ (posted : List Msg) (settings : List Settings) (phase : ℕ) (plan : List ChannelOrder) (p : Phase) (old before between boxes new : List DeviceBox) (pairs : List Pairing) (settled settled' : List ChannelRun) (outcomes : List (List (List LineResult)))
+    (can : CanRun phase plan old p) (away : AreAway plan old before) (all : AllOpened posted settings plan old before between pairs) (closed : AllClosed phase old all.opened.given between boxes settled settled' outcomes) (whole : AreWhole old boxes new) where
   places : length between ≡ length old
   places = all.opened.places ∙ away.count
 

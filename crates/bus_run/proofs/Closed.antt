@@ -8,7 +8,7 @@ use Rattle.std.proofs.lemmas.Bool.Decides.{nat_tests}
 use Rattle.bus_model.proofs.Lists.{each_append}
 use Rattle.bus_model.specs.declared.channel_run.ChannelRun.{ChannelRun}
 use Rattle.bus_script.specs.declared.outcome.LineResult.{LineResult}
-use Rattle.device_any.specs.Seats.{kind_at, served_at, IsSameSeat}
+use Rattle.device_any.specs.Seats.{kind_at, served_at}
 use Rattle.device_any.specs.declared.device_seat.DeviceSeat.{DeviceSeat}
 use Rattle.bus_threads.specs.Pairs.{RanPair}
 use Rattle.bus_threads.specs.declared.pair.PairDone.{PairDone}

@@ -9,3 +9,4 @@ pub mod ServedLines
 pub mod Assembling
 pub mod PhaseRun
 pub mod OpenedAs
+pub mod Told

@@ -1,5 +1,6 @@
 -- The seats of a phase's devices while its channels are opened.
-use Rattle.std.proofs.Common.{◌≡◌, ℕ, zero, suc, ◌+◌, ◌<◌, ◌≤◌, ◌==◌, ◌*◌, Bool, true, false, cond, List, [], ◌∷◌, ◌++◌, length, length-append, length-drop, append_assoc, take, drop, get_or, refl, ap, sym, ◌∙◌, subst, arith, inl, inr, slice_set, slice_index_or, Option, Some, None}
+use Rattle.vmbus_msg.specs.declared.msg.Msg.{Msg}
+use Rattle.std.proofs.Common.{◌≡◌, ℕ, zero, suc, ◌+◌, ◌<◌, ◌≤◌, ◌==◌, ◌*◌, Bool, true, false, cond, List, [], ◌∷◌, ◌++◌, length, length-drop, append_assoc, take, drop, get_or, refl, ap, sym, ◌∙◌, subst, arith, inl, inr, slice_set, slice_index_or, Option, Some, None}
 use Rattle.std.specs.Prelude.{map, filter, All}
 use Rattle.std.specs.List.{AllByRecursion}
 use Rattle.std.proofs.Math.ListN.{length-set}
@@ -196,12 +197,12 @@ next_left plan left rest i x is next =
 
 -- channels opened one by one
 
-pub record OpenedNow (settings : List Settings) (plan : List ChannelOrder) (i : ℕ) (old before boxes : List DeviceBox) (pairs : List Pairing) : Type 0 where
-  pub so_far : OpenedSoFar settings (take i plan) old before boxes pairs
+pub record OpenedNow (posted : List Msg) (settings : List Settings) (plan : List ChannelOrder) (i : ℕ) (old before boxes : List DeviceBox) (pairs : List Pairing) : Type 0 where
+  pub so_far : OpenedSoFar posted settings (take i plan) old before boxes pairs
   pub left : (k : ℕ) → k < length before → AreLeft (kind_in (box_at boxes k)) (quotas_of k (drop i plan)) (seats_in (box_at boxes k))
 
-pub opened_start : (settings : List Settings) (plan : List ChannelOrder) (old before : List DeviceBox) → AreAway plan old before → OpenedNow settings plan 0 old before before []
-opened_start settings plan old before away = record {
+pub opened_start : (posted : List Msg) (settings : List Settings) (plan : List ChannelOrder) (old before : List DeviceBox) → AreAway plan old before → OpenedNow posted settings plan 0 old before before []
+opened_start posted settings plan old before away = record {
   so_far = record { given = []; planned = refl; opens = tt; places = refl; still = λ k less. still_same (box_at before k); dealt = λ k less. refl; fits = tt };
   left = λ k less. away_left (box_at old k) (box_at before k) (quotas_of k plan) (away.each k (omega (arith, less, away.count)));
 }
@@ -217,9 +218,9 @@ pub record Turn (old : List DeviceBox) (plan : List ChannelOrder) (i : ℕ) (x :
   pub held : IsHeld (box_at old x.opening.device) own (kind_at first.seat)
   pub order : order_with x (kind_at first.seat) (subs_in own) ≡ order_at old x
 
-pub turn : (settings : List Settings) (plan : List ChannelOrder) (i : ℕ) (old before boxes : List DeviceBox) (pairs : List Pairing) (x : ChannelOrder) (own : DeviceBox) → CanOpenAll plan old → AreAway plan old before
-    → OpenedNow settings plan i old before boxes pairs → i < length plan → x ≡ get_or plan i x → own ≡ get_or boxes x.opening.device own → Turn old plan i x boxes own
-turn settings plan i old before boxes pairs x own can away now less is value =
+pub turn : (posted : List Msg) (settings : List Settings) (plan : List ChannelOrder) (i : ℕ) (old before boxes : List DeviceBox) (pairs : List Pairing) (x : ChannelOrder) (own : DeviceBox) → CanOpenAll plan old → AreAway plan old before
+    → OpenedNow posted settings plan i old before boxes pairs → i < length plan → x ≡ get_or plan i x → own ≡ get_or boxes x.opening.device own → Turn old plan i x boxes own
+turn posted settings plan i old before boxes pairs x own can away now less is value =
     let so_far = now.so_far in
     let here : CanOpen old x = subst (CanOpen old) (sym is) (all_at (CanOpen old) plan i x can.each less) in
     let next = at plan i less in
@@ -248,14 +249,14 @@ turn settings plan i old before boxes pairs x own can away now less is value =
     }
 
 -- the same, where the channels still to come are these
-pub turn_next : (settings : List Settings) (plan left rest : List ChannelOrder) (old before boxes : List DeviceBox) (pairs : List Pairing) (x : ChannelOrder) (own : DeviceBox) → CanOpenAll plan old → AreAway plan old before → OpenedNow settings plan (length pairs) old before boxes pairs
+pub turn_next : (posted : List Msg) (settings : List Settings) (plan left rest : List ChannelOrder) (old before boxes : List DeviceBox) (pairs : List Pairing) (x : ChannelOrder) (own : DeviceBox) → CanOpenAll plan old → AreAway plan old before → OpenedNow posted settings plan (length pairs) old before boxes pairs
     → left ≡ drop (length pairs) plan → left ≡ x ∷ rest → own ≡ get_or boxes x.opening.device own → Turn old plan (length pairs) x boxes own
-turn_next settings plan left rest old before boxes pairs x own can away now is next value =
-    turn settings plan (length pairs) old before boxes pairs x own can away now (next_less plan left rest (length pairs) x is next) (next_is plan left rest (length pairs) x is next) value
+turn_next posted settings plan left rest old before boxes pairs x own can away now is next value =
+    turn posted settings plan (length pairs) old before boxes pairs x own can away now (next_less plan left rest (length pairs) x is next) (next_is plan left rest (length pairs) x is next) value
 
-pub within_next : (settings : List Settings) (plan left rest : List ChannelOrder) (old before boxes : List DeviceBox) (pairs : List Pairing) (x : ChannelOrder) → CanOpenAll plan old → AreAway plan old before → OpenedNow settings plan (length pairs) old before boxes pairs
+pub within_next : (posted : List Msg) (settings : List Settings) (plan left rest : List ChannelOrder) (old before boxes : List DeviceBox) (pairs : List Pairing) (x : ChannelOrder) → CanOpenAll plan old → AreAway plan old before → OpenedNow posted settings plan (length pairs) old before boxes pairs
     → left ≡ drop (length pairs) plan → left ≡ x ∷ rest → (x.opening.device < length boxes) × (x.opening.device < length before)
-within_next settings plan left rest old before boxes pairs x can away now is next =
+within_next posted settings plan left rest old before boxes pairs x can away now is next =
     let less = next_less plan left rest (length pairs) x is next in
     let here : CanOpen old x = subst (CanOpen old) (sym (next_is plan left rest (length pairs) x is next)) (all_at (CanOpen old) plan (length pairs) x can.each less) in
     (omega (arith, here.within, away.count, now.so_far.places), omega (arith, here.within, away.count))
@@ -279,11 +280,11 @@ given_seat old plan i x boxes own s rest t first =
       left = ap left_at seat ∙ t.first.left;
     }
 
-pub opened_more : (settings : List Settings) (plan : List ChannelOrder) (i : ℕ) (old before boxes : List DeviceBox) (pairs pairs' : List Pairing) (x : ChannelOrder) (own new : DeviceBox) (s : DeviceSeat) (z : Settings) (pair : Pairing) → AreAway plan old before
-    → OpenedNow settings plan i old before boxes pairs → Turn old plan i x boxes own → length settings ≡ length before → seats_in own ≡ s ∷ seats_in new → IsStill own new
-    → IsOpenedWith (slice_index_or settings x.opening.device z) x.opening.relid (order_with x (kind_at s) (subs_in own)) s pair → pairs' ≡ pairs ++ pair ∷ []
-    → OpenedNow settings plan (i + 1) old before (slice_set boxes x.opening.device new) pairs'
-opened_more settings plan i old before boxes pairs pairs' x own new s z pair away now t count first still opens grown =
+pub opened_more : (posted : List Msg) (settings : List Settings) (plan : List ChannelOrder) (i : ℕ) (old before boxes : List DeviceBox) (pairs pairs' : List Pairing) (x : ChannelOrder) (own new : DeviceBox) (s : DeviceSeat) (z : Settings) (pair : Pairing) → AreAway plan old before
+    → OpenedNow posted settings plan i old before boxes pairs → Turn old plan i x boxes own → length settings ≡ length before → seats_in own ≡ s ∷ seats_in new → IsStill own new
+    → IsOpenedWith posted (slice_index_or settings x.opening.device z) x.opening.relid (order_with x (kind_at s) (subs_in own)) s pair → pairs' ≡ pairs ++ pair ∷ []
+    → OpenedNow posted settings plan (i + 1) old before (slice_set boxes x.opening.device new) pairs'
+opened_more posted settings plan i old before boxes pairs pairs' x own new s z pair away now t count first still opens grown =
     let so_far = now.so_far in
     let k = x.opening.device in
     let both : s ∷ seats_in new ≡ t.first.seat ∷ t.first.rest = sym first ∙ t.first.seats_are in
@@ -292,7 +293,7 @@ opened_more settings plan i old before boxes pairs pairs' x own new s z pair awa
     let within : k < length settings = omega (arith, t.can.within, count, away.count) in
     let set : slice_index_or settings k z ≡ slice_index_or settings k unset = get_or_default settings k z unset within in
     let g : Given = record { order = x; seat = s } in
-    let one : OpensAt settings old g pair = subst (λ y. IsOpenedWith y x.opening.relid (order_at old x) s pair) set (subst (λ o. IsOpenedWith (slice_index_or settings k z) x.opening.relid o s pair) order opens) in
+    let one : OpensAt posted settings old g pair = subst (λ y. IsOpenedWith posted y x.opening.relid (order_at old x) s pair) set (subst (λ o. IsOpenedWith posted (slice_index_or settings k z) x.opening.relid o s pair) order opens) in
     let given = so_far.given in
     let of : ℕ → Given → Bool = λ j g. g.order.opening.device == j in
     let low : k < length before = omega (arith, t.within, so_far.places) in
@@ -300,7 +301,7 @@ opened_more settings plan i old before boxes pairs pairs' x own new s z pair awa
       so_far = record {
         given = given ++ g ∷ [];
         planned = map-append (λ (g : Given). g.order) given (g ∷ []) ∙ (ap (λ l. l ++ x ∷ []) so_far.planned ∙ (ap (λ y. take i plan ++ y ∷ []) t.next_is ∙ sym t.next.taken));
-        opens = subst (EachWith (OpensAt settings old) (given ++ g ∷ [])) (sym grown) (with_push (OpensAt settings old) given pairs g pair so_far.opens one);
+        opens = subst (EachWith (OpensAt posted settings old) (given ++ g ∷ [])) (sym grown) (with_push (OpensAt posted settings old) given pairs g pair so_far.opens one);
         places = length-set boxes k new ∙ so_far.places;
         still = λ j less. still_set before boxes k own new t.within t.own_is still so_far.still j less;
         dealt = λ j less. elim (cases_eq j k) [
@@ -344,9 +345,9 @@ opened_more settings plan i old before boxes pairs pairs' x own new s z pair awa
         subst (λ y. AreLeft (kind_in y) (quotas_of k (drop (i + 1) plan)) (seats_in y)) (sym (get_or-set_same boxes k new gone t.within))
         (subst (λ l. AreLeft (kind_in new) (quotas_of k (drop (i + 1) plan)) l) (sym rest) (subst (λ o. AreLeft o (quotas_of k (drop (i + 1) plan)) t.first.rest) (sym still.kind) t.first.more))
 
-pub opened_end : (settings : List Settings) (plan : List ChannelOrder) (i : ℕ) (old before boxes : List DeviceBox) (pairs : List Pairing) → OpenedNow settings plan i old before boxes pairs → length plan ≤ i → AllOpened settings plan old before boxes pairs
-opened_end settings plan i old before boxes pairs now over = record {
-  opened = subst (λ l. OpenedSoFar settings l old before boxes pairs) (take_all i plan over) now.so_far;
+pub opened_end : (posted : List Msg) (settings : List Settings) (plan : List ChannelOrder) (i : ℕ) (old before boxes : List DeviceBox) (pairs : List Pairing) → OpenedNow posted settings plan i old before boxes pairs → length plan ≤ i → AllOpened posted settings plan old before boxes pairs
+opened_end posted settings plan i old before boxes pairs now over = record {
+  opened = subst (λ l. OpenedSoFar posted settings l old before boxes pairs) (take_all i plan over) now.so_far;
   none_left = λ k less. none_of (kind_in (box_at boxes k)) (seats_in (box_at boxes k)) (subst (λ l. AreLeft (kind_in (box_at boxes k)) (quotas_of k l) (seats_in (box_at boxes k))) (drop_all i plan over) (now.left k less));
 }
 

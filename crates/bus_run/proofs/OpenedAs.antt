@@ -1,4 +1,5 @@
 -- The channels of a phase were opened as the lines say, and what was carried is what their workers left.
+use Rattle.vmbus_msg.specs.declared.msg.Msg.{Msg}
 use Rattle.std.proofs.Common.{◌≡◌, ℕ, ◌≤◌, List, [], ◌∷◌, ◌++◌, length, append_assoc, drop, ap, sym, ◌∙◌, subst, arith, slice_index_or}
 use Rattle.std.specs.Prelude.{map}
 use Rattle.std.specs.List.{AllByRecursion, flat_map}
@@ -6,6 +7,9 @@ use Rattle.std.proofs.lemmas.List.{append-nil, map-append, length-drop}
 use Rattle.std.proofs.lemmas.Grind.{flat_map-append}
 use Rattle.script_lines.specs.declared.line.Line.{Line}
 use Rattle.script_phases.specs.Openings.{Opening, Phase, by_relid}
+use Rattle.control_model.specs.Plan.{phase_of}
+use Rattle.control_model.specs.Openings.{plan_of}
+use Rattle.control_run.specs.Told.{IsSaidToStart}
 use Rattle.bus_model.specs.Orders.{order_of}
 use Rattle.bus_model.specs.declared.channel_run.ChannelRun.{ChannelRun}
 use Rattle.bus_plan.specs.Plans.{EachOf, EachOrdered}
@@ -15,63 +19,68 @@ use Rattle.bus_threads.specs.Pairs.{EachRuns, Pairing}
 use Rattle.bus_threads.specs.declared.pair.PairDone.{PairDone}
 use Rattle.bus_run.specs.Channels.{CanRun, IsOf}
 use Rattle.bus_run.specs.Closing.{RanAt}
-use Rattle.bus_run.specs.Opened.{AllRanAsSet, AreOpenAt, HaveLeft, HaveWorked, IsOpenAt, IsOpenedAs, RanAsSet, Worked}
-use Rattle.bus_run.specs.Opening.{AllOpened, Given, IsOpenedWith, OpensAt}
+use Rattle.bus_run.specs.Opened.{AllRanAsSet, AreOpenAt, HaveLeft, HaveWorked, IsOpenAt, IsOpenedAs, IsPlanned, RanAsSet, Worked}
+use Rattle.bus_run.specs.Opening.{AllOpened, Given, IsOpenedWith, OpensAt, lists_in}
 use Rattle.device_any.specs.Boxes.{EachWith}
 use Rattle.device_any.specs.declared.device_box.DeviceBox.{DeviceBox}
 use Rattle.bus_run.specs.Settings.{SettingsOf, unset}
 use Rattle.bus_run.specs.declared.settings.Settings.{Settings}
 use Rattle.bus_run.proofs.Assembling.{same_order}
 use Rattle.bus_run.proofs.Items.{with_long, with_push}
+use Rattle.bus_run.proofs.Told.{TellsPlanned}
 
 -- each channel has what is ordered of it in the plan, and what is set for its device
-opened_at : (settings : List Settings) (p : Phase) (old : List DeviceBox) (os : List Opening) (given : List Given) (pairs : List Pairing) → length settings ≡ length old → EachOrdered p os (map (λ (g : Given). g.order) given) → AllByRecursion (IsOf old) os
-    → EachWith (OpensAt settings old) given pairs → EachOf (IsOpenAt settings p) os pairs
-opened_at settings p old [] [] [] count ordered of opens = tt
-opened_at settings p old [] [] (q ∷ pairs) count ordered of opens = absurd opens
-opened_at settings p old [] (g ∷ given) pairs count ordered of opens = absurd ordered
-opened_at settings p old (o ∷ os) [] pairs count ordered of opens = absurd ordered
-opened_at settings p old (o ∷ os) (g ∷ given) [] count ordered of opens = absurd opens
-opened_at settings p old (o ∷ os) (g ∷ given) (q ∷ pairs) count ordered of opens = (
+opened_at : (posted : List Msg) (settings : List Settings) (p : Phase) (old : List DeviceBox) (os : List Opening) (given : List Given) (pairs : List Pairing) → length settings ≡ length old → EachOrdered p os (map (λ (g : Given). g.order) given) → AllByRecursion (IsOf old) os
+    → EachWith (OpensAt posted settings old) given pairs → EachOf (IsOpenAt posted settings p) os pairs
+opened_at posted settings p old [] [] [] count ordered of opens = tt
+opened_at posted settings p old [] [] (q ∷ pairs) count ordered of opens = absurd opens
+opened_at posted settings p old [] (g ∷ given) pairs count ordered of opens = absurd ordered
+opened_at posted settings p old (o ∷ os) [] pairs count ordered of opens = absurd ordered
+opened_at posted settings p old (o ∷ os) (g ∷ given) [] count ordered of opens = absurd opens
+opened_at posted settings p old (o ∷ os) (g ∷ given) (q ∷ pairs) count ordered of opens = (
   record {
     within = omega (arith, of.0.within, count);
     seat = g.seat;
-    opened = subst (λ k. IsOpenedWith (slice_index_or settings k unset) o.relid (order_of p o) g.seat q) ordered.0.device
-        (subst (λ r. IsOpenedWith (slice_index_or settings g.order.opening.device unset) r (order_of p o) g.seat q) ordered.0.relid
-        (subst (λ r. IsOpenedWith (slice_index_or settings g.order.opening.device unset) g.order.opening.relid r g.seat q) (same_order p 0 old o g.order ordered.0 of.0) opens.0));
+    opened = subst (λ k. IsOpenedWith posted (slice_index_or settings k unset) o.relid (order_of p o) g.seat q) ordered.0.device
+        (subst (λ r. IsOpenedWith posted (slice_index_or settings g.order.opening.device unset) r (order_of p o) g.seat q) ordered.0.relid
+        (subst (λ r. IsOpenedWith posted (slice_index_or settings g.order.opening.device unset) g.order.opening.relid r g.seat q) (same_order p 0 old o g.order ordered.0 of.0) opens.0));
   },
-  opened_at settings p old os given pairs count ordered.1 of.1 opens.1,
+  opened_at posted settings p old os given pairs count ordered.1 of.1 opens.1,
 )
 
 -- the channels of a phase have worked
-pub have_worked : (phase : ℕ) (settings : List Settings) (p : Phase) (old : List DeviceBox) (plan : List ChannelOrder) (before seats : List DeviceBox) (pairs : List Pairing) (dones : List PairDone) (settled settled' : List ChannelRun) (work work' : List Worked) (w : Worked) → length settings ≡ length old → CanRun phase plan old p
-    → AllOpened settings plan old before seats pairs → EachRuns pairs dones → HaveLeft settled settled' dones → work' ≡ work ++ w ∷ [] → w.opened ≡ pairs → w.left ≡ dones → HaveWorked settings p settled settled' work work'
-have_worked phase settings p old plan before seats pairs dones settled settled' work work' w count can all runs left is opened_is left_is = record {
+pub have_worked : (phase : ℕ) (posted : List Msg) (settings : List Settings) (p : Phase) (old : List DeviceBox) (plan : List ChannelOrder) (before seats : List DeviceBox) (pairs : List Pairing) (dones : List PairDone) (settled settled' : List ChannelRun) (work work' : List Worked) (w : Worked) → length settings ≡ length old → CanRun phase plan old p
+    → AllOpened posted settings plan old before seats pairs → EachRuns pairs dones → HaveLeft settled settled' dones → work' ≡ work ++ w ∷ [] → w.opened ≡ pairs → w.left ≡ dones → HaveWorked posted settings p settled settled' work work'
+have_worked phase posted settings p old plan before seats pairs dones settled settled' work work' w count can all runs left is opened_is left_is = record {
   work = w;
   after_is = is;
-  opened = subst (AreOpenAt settings p) (sym opened_is)
-      (opened_at settings p old (by_relid p.opened) all.opened.given pairs count (subst (EachOrdered p (by_relid p.opened)) (sym all.opened.planned) can.ordered) can.of all.opened.opens);
+  opened = subst (AreOpenAt posted settings p) (sym opened_is)
+      (opened_at posted settings p old (by_relid p.opened) all.opened.given pairs count (subst (EachOrdered p (by_relid p.opened)) (sym all.opened.planned) can.ordered) can.of all.opened.opens);
   ran = subst (λ l. EachRuns l w.left) (sym opened_is) (subst (EachRuns pairs) (sym left_is) runs);
   left = subst (HaveLeft settled settled') (sym left_is) left;
 }
 
--- and that is what the lines set
-opened_as : (lines : List Line) (devices : ℕ) (settings : List Settings) (p : Phase) (os : List Opening) (pairs : List Pairing) → SettingsOf lines devices settings → EachOf (IsOpenAt settings p) os pairs → EachOf (IsOpenedAs lines p) os pairs
-opened_as lines devices settings p [] [] are each = tt
-opened_as lines devices settings p [] (q ∷ pairs) are each = absurd each
-opened_as lines devices settings p (o ∷ os) [] are each = absurd each
-opened_as lines devices settings p (o ∷ os) (q ∷ pairs) are each = (
+-- and that is what the lines set, and what the control path's plan has
+opened_as : (lines : List Line) (devices : ℕ) (posted : List Msg) (settings : List Settings) (p : Phase) (os : List Opening) (pairs : List Pairing) → SettingsOf lines devices settings → TellsPlanned (plan_of lines) p.number posted
+    → AllByRecursion (IsPlanned (phase_of (plan_of lines) p.number)) os → EachOf (IsOpenAt posted settings p) os pairs → EachOf (IsOpenedAs posted lines p) os pairs
+opened_as lines devices posted settings p [] [] are told planned each = tt
+opened_as lines devices posted settings p [] (q ∷ pairs) are told planned each = absurd each
+opened_as lines devices posted settings p (o ∷ os) [] are told planned each = absurd each
+opened_as lines devices posted settings p (o ∷ os) (q ∷ pairs) are told planned each = (
   record {
     seat = each.0.seat;
-    opened = subst (λ s. IsOpenedWith s o.relid (order_of p o) each.0.seat q) (are.each o.device (omega (arith, each.0.within, are.count))) each.0.opened;
+    opened = subst (λ s. IsOpenedWith posted s o.relid (order_of p o) each.0.seat q) (are.each o.device (omega (arith, each.0.within, are.count))) each.0.opened;
+    planned = planned.0;
+    lists = λ has. each.0.opened.lists ∙ (ap (lists_in posted) (sym planned.0.relid) ∙ told planned.0.place planned.0.opening planned.0.is (planned.0.buffers ∙ has));
   },
-  opened_as lines devices settings p os pairs are each.1,
+  opened_as lines devices posted settings p os pairs are told planned.1 each.1,
 )
 
 -- one more phase
-pub ran_more : (lines : List Line) (devices : ℕ) (settings : List Settings) (ps : List Phase) (p : Phase) (work work' : List Worked) (settled settled' : List ChannelRun) → SettingsOf lines devices settings → AllRanAsSet lines ps work settled → HaveWorked settings p settled settled' work work'
+pub ran_more : (lines : List Line) (devices : ℕ) (posted : List Msg) (settings : List Settings) (ps : List Phase) (p : Phase) (work work' : List Worked) (settled settled' : List ChannelRun) → SettingsOf lines devices settings → IsSaidToStart (plan_of lines) p.number posted → TellsPlanned (plan_of lines) p.number posted
+    → AllByRecursion (IsPlanned (phase_of (plan_of lines) p.number)) (by_relid p.opened) → AllRanAsSet lines ps work settled → HaveWorked posted settings p settled settled' work work'
     → AllRanAsSet lines (ps ++ p ∷ []) work' settled'
-ran_more lines devices settings ps p work work' settled settled' are before one =
+ran_more lines devices posted settings ps p work work' settled settled' are said told planned before one =
     let runs = one.left.runs in
     let w = one.work in
     let carried : ChannelRun → Lists = λ r. r.settled in
@@ -79,7 +88,7 @@ ran_more lines devices settings ps p work work' settled settled' are before one 
     let all : List Worked → List PairDone = flat_map (λ (w : Worked). w.left) in
     record {
       each = subst (EachWith (RanAsSet lines) (ps ++ p ∷ [])) (sym one.after_is)
-          (with_push (RanAsSet lines) ps work p w before.each (record { opened = opened_as lines devices settings p (by_relid p.opened) w.opened are one.opened; ran = one.ran }));
+          (with_push (RanAsSet lines) ps work p w before.each (record { posted = posted; posted_is = said; opened = opened_as lines devices posted settings p (by_relid p.opened) w.opened are told planned one.opened; ran = one.ran }));
       carried = ap (map carried) one.left.settled_are
           ∙ (map-append carried settled runs
           ∙ (ap (λ l. l ++ map carried runs) before.carried

@@ -38,7 +38,6 @@ use Rattle.bus_run.specs.Channels.{CanRun, ChannelsRan, IsOf}
 use Rattle.bus_run.specs.Whole.{IsThis, PhaseRan, specs_of}
 use Rattle.bus_run.proofs.Assembling.{same_order}
 use Rattle.device_any.proofs.ManySeats.{hits, few_hits}
-use Rattle.bus_run.proofs.Opened.{room_here}
 use Rattle.bus_run.proofs.Asking.{FitsSays, said_fits, asks_fit, stop_fits, few_all}
 
 -- what is so of each channel of a phase

@@ -1,11 +1,11 @@
 -- The devices of a script, and its phases one after the other.
-use Rattle.std.proofs.Common.{◌≡◌, ℕ, zero, suc, ◌+◌, ◌*◌, ◌<◌, ◌≤◌, Bool, true, false, cond, nat_lt, replicate, List, [], ◌∷◌, ◌++◌, length, length-append, append_assoc, take, drop, get_or, refl, ap, sym, ◌∙◌, subst, arith, inl, inr, Option, Some, None, slice_set, slice_index_or}
+use Rattle.vmbus_msg.specs.declared.msg.Msg.{Msg}
+use Rattle.std.proofs.Common.{◌≡◌, ℕ, zero, suc, ◌+◌, ◌*◌, ◌<◌, ◌≤◌, Bool, true, false, cond, nat_lt, replicate, List, [], ◌∷◌, ◌++◌, length, length-append, append_assoc, take, drop, get_or, refl, ap, sym, ◌∙◌, subst, arith, inl, inr, Option, Some, None, slice_index_or}
 use Rattle.std.specs.Prelude.{map, All, MatchOption, ⊤, is_some, IsTrue, ◌↔◌}
 use Rattle.std.proofs.lemmas.Bool.{cases_eq}
 use Rattle.std.proofs.lemmas.Bool.Decides.{nat_tests}
 use Rattle.std.specs.List.{slice_split, onto_first, flat_map, AllByRecursion}
-use Rattle.std.proofs.Math.ListN.{length-set}
-use Rattle.std.proofs.lemmas.List.{take_more, drop_more, take_all, append-nil, map-append, length-map, drop-set-lt, drop-drop, length-drop, length-replicate, get_or-replicate}
+use Rattle.std.proofs.lemmas.List.{take_more, drop_more, take_all, append-nil, map-append, length-map, drop-drop, length-drop, length-replicate, get_or-replicate}
 use Rattle.std.proofs.lemmas.List.Elements.{All-push}
 use Rattle.std.proofs.lemmas.Grind.{flat_map-append}
 use Rattle.script_lines.specs.declared.line.Line.{Line}
@@ -19,7 +19,10 @@ use Rattle.script_lines.specs.declared.line.DeviceSpec.TheVariants.{Beat as IsBe
 use Rattle.bus_model.proofs.Lists.{each_append}
 use Rattle.contact.specs.declared.version.Version.{Version}
 use Rattle.script_phases.specs.Agreed.{agreed_in}
-use Rattle.script_phases.specs.Openings.{Phase, subs_of, is_opened, opened_from, others, phases_from, phases}
+use Rattle.script_phases.specs.Openings.{Phase, by_relid, subs_of, is_opened, opened_from, others, phases_from, phases}
+use Rattle.control_model.specs.Plan.{phase_of}
+use Rattle.control_model.specs.Openings.{plan_of}
+use Rattle.control_run.specs.Told.{IsSaidToStart}
 use Rattle.device_kinds.specs.Logs.{EachHistory, IsHistory, log_of}
 use Rattle.device_kinds.specs.Logs.{Recorded}
 use Rattle.bus_model.specs.Run.{PhaseRuns, RunsOf, over, then_on, IsBusRun}
@@ -32,10 +35,11 @@ use Rattle.scsi_disk.specs.DiskModel.{DiskState}
 use Rattle.bus_run.specs.Devices.{IsReady}
 use Rattle.device_any.specs.Boxes.{IsFresh, IsKept, box_log, setup_for, setup_of, spec_of}
 use Rattle.device_any.specs.declared.device_box.DeviceBox.{DeviceBox}
-use Rattle.bus_run.specs.Opened.{AllRanAsSet, HaveWorked}
+use Rattle.bus_run.specs.Opened.{AllRanAsSet, HaveWorked, IsPlanned}
 use Rattle.bus_run.specs.Settings.{SettingsOf}
 use Rattle.bus_run.specs.Whole.{IsThis, PhaseRan, AreFresh, setups_from, specs_of, parts_left, earlier_lines, NextWithin, behind, next_relid, RunsSoFar}
 use Rattle.bus_run.proofs.OpenedAs.{ran_more}
+use Rattle.bus_run.proofs.Told.{TellsPlanned, all_planned}
 
 -- new devices
 
@@ -317,14 +321,14 @@ start lines r agreed fresh settings none relid sixteen phase next settled result
     }
 
 -- one more phase ran
-pub go_on : (lines part : List Line) (old new : Runner) (at : ℕ) (next : Option ℕ) → RunsSoFar lines old → IsScript lines → old.next ≡ Some at
+pub go_on : (lines part : List Line) (posted : List Msg) (old new : Runner) (at : ℕ) (next : Option ℕ) → IsSaidToStart (plan_of lines) old.phase posted → TellsPlanned (plan_of lines) old.phase posted → RunsSoFar lines old → IsScript lines → old.next ≡ Some at
     → MatchOption next (parts (drop at lines) ≡ part ∷ []) (λ n. parts (drop at lines) ≡ part ∷ parts (drop n (drop at lines))) → MatchOption next ⊤ (λ n. n ≤ length (drop at lines))
     → ((p : Phase) → IsThis old.version.0 old.phase part old.ended.items (specs_of old.boxes.items) old.relid p → PhaseRan p old.boxes.items new.boxes.items old.settled.items new.settled.items old.results.items new.results.items)
     → ((p : Phase) → IsThis old.version.0 old.phase part old.ended.items (specs_of old.boxes.items) old.relid p → new.relid ≡ old.relid + length (others p.opened)) → new.relid ≤ old.relid + 48
     → ((earlier : List Line) → AreEnded earlier old.ended.items → AreEnded (earlier ++ part) new.ended.items)
     → length new.ended.items ≡ length old.ended.items → All (IsReady (4096 * (old.phase + 1))) new.boxes.items → new.phase ≡ old.phase + 1 → new.next ≡ behind at next → new.settings.items ≡ old.settings.items → new.version ≡ old.version
-    → ((p : Phase) → IsThis old.version.0 old.phase part old.ended.items (specs_of old.boxes.items) old.relid p → HaveWorked old.settings.items p old.settled.items new.settled.items old.work.items new.work.items) → RunsSoFar lines new
-go_on lines part old new at next so_far script here split within ran relids few ended count ready phase moved settings agreed worked =
+    → ((p : Phase) → IsThis old.version.0 old.phase part old.ended.items (specs_of old.boxes.items) old.relid p → HaveWorked posted old.settings.items p old.settled.items new.settled.items old.work.items new.work.items) → RunsSoFar lines new
+go_on lines part posted old new at next said told so_far script here split within ran relids few ended count ready phase moved settings agreed worked =
     let cut : parts (drop at lines) ≡ part ∷ parts_left lines (behind at next) = part_next lines part at next split in
     let left : part ∷ parts_left lines (behind at next) ≡ drop old.phase (parts lines) = sym cut ∙ ap (parts_left lines) (sym here) ∙ so_far.left in
     let p = the_phase lines old.phase in
@@ -348,7 +352,9 @@ go_on lines part old new at next so_far script here split within ran relids few 
           (subst (λ l. RunsOf (take old.phase (phases lines) ++ p ∷ []) before l (map box_log new.boxes.items) new.results.items) (sym one.settled_are)
           (subst (λ l. RunsOf (take old.phase (phases lines) ++ p ∷ []) before (old.settled.items ++ one.runs) (map box_log new.boxes.items) l) (sym one.results_are) whole));
       worked = subst (λ ps. AllRanAsSet lines ps new.work.items new.settled.items) (sym taken)
-          (ran_more lines (length old.boxes.items) old.settings.items (take old.phase (phases lines)) p old.work.items new.work.items old.settled.items new.settled.items so_far.settings so_far.worked (worked p is_this));
+          (ran_more lines (length old.boxes.items) posted old.settings.items (take old.phase (phases lines)) p old.work.items new.work.items old.settled.items new.settled.items so_far.settings
+          (subst (λ n. IsSaidToStart (plan_of lines) n posted) (sym is_this.number) said) (subst (λ n. TellsPlanned (plan_of lines) n posted) (sym is_this.number) told)
+          (subst (λ n. AllByRecursion (IsPlanned (phase_of (plan_of lines) n)) (by_relid p.opened)) (sym is_this.number) (all_planned lines old.phase no_phase less)) so_far.worked (worked p is_this));
       left = ap (parts_left lines) moved ∙ this.2 ∙ ap (λ p. drop p (parts lines)) (sym phase);
       within = subst (NextWithin lines) (sym moved) (within_next lines at next started within);
       counted = omega (arith, phase, this.0);

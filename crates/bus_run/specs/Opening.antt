@@ -6,7 +6,13 @@ use Rattle.worker_pair.specs.Plans.{stop_of}
 use Rattle.device_any.specs.Seats.{kind_at}
 use Rattle.device_any.specs.declared.device_seat.DeviceSeat.{DeviceSeat}
 use Rattle.bus_model.specs.Orders.{Order}
-use Rattle.bus_threads.specs.Pairs.{Pairing, AreOnChannel, Opens}
+use Rattle.bus_threads.specs.Pairs.{Pairing, AreOnChannel, Opens, lists_of}
+use Rattle.device_formats.specs.declared.buffer_lists.BufferLists.{BufferLists}
+use Rattle.control_model.specs.declared.opening.Opening.{Opening as PlanOpening}
+use Rattle.control_model.specs.declared.buffer.Buffer.TheVariants.{Receive, Send}
+use Rattle.control_model.specs.Plan.{buffer_list}
+use Rattle.guest_end.specs.Told.{lists_told}
+use Rattle.vmbus_msg.specs.declared.msg.Msg.{Msg}
 use Rattle.worker_pair.specs.Pairs.{pages_on}
 use Rattle.bus_plan.specs.Plans.{order_by}
 use Rattle.bus_plan.specs.declared.opening.ChannelOrder.{ChannelOrder}
@@ -62,10 +68,19 @@ pub record IsStill (old new : DeviceBox) : Type 0 where
   pub subs : subs_in new ≡ subs_in old
   pub stays : kind_in old ≡ None → new ≡ old
 
--- a channel was opened as the settings say and as was ordered, with this seat
-pub record IsOpenedWith (settings : Settings) (relid : ℕ) (order : Order) (seat : DeviceSeat) (pair : Pairing) : Type 0 where
+-- the page lists of a channel's buffers, in what the guest posted
+abbrev pub lists_in : List Msg → ℕ → BufferLists
+lists_in posted relid = record { receive = (lists_told relid (0, 0) posted).0; send = (lists_told relid (0, 0) posted).1 }
+
+-- the page lists that a plan has for a channel's buffers
+abbrev pub planned_lists : PlanOpening → BufferLists
+planned_lists o = record { receive = buffer_list o Receive; send = buffer_list o Send }
+
+-- a channel was opened as the settings say and as was ordered, with this seat. What its guest tells of its buffers are the page lists that stand in what the guest's control posted
+pub record IsOpenedWith (posted : List Msg) (settings : Settings) (relid : ℕ) (order : Order) (seat : DeviceSeat) (pair : Pairing) : Type 0 where
   pub opens : Opens order seat pair
   pub channel : AreOnChannel relid (512 * settings.pages) (pages_on order.kind settings.window) settings.window pair
+  pub lists : lists_of pair ≡ lists_in posted relid
 
 -- a channel and the seat that it has
 pub record Given : Type 0 where
@@ -76,20 +91,20 @@ pub record Given : Type 0 where
 abbrev pub seats_given : ℕ → List Given → List DeviceSeat
 seats_given device given = map (λ g. g.seat) (filter (λ g. g.order.opening.device == device) given)
 
-abbrev pub OpensAt : List Settings → List DeviceBox → Given → Pairing → Type 0
-OpensAt settings boxes g pair = IsOpenedWith (slice_index_or settings g.order.opening.device unset) g.order.opening.relid (order_at boxes g.order) g.seat pair
+abbrev pub OpensAt : List Msg → List Settings → List DeviceBox → Given → Pairing → Type 0
+OpensAt posted settings boxes g pair = IsOpenedWith posted (slice_index_or settings g.order.opening.device unset) g.order.opening.relid (order_at boxes g.order) g.seat pair
 
 -- Channels of a phase are opened, each with a seat of its device: the seats that each device had are those that its channels have, and those that still stand there
-pub record OpenedSoFar (settings : List Settings) (plan : List ChannelOrder) (old before boxes : List DeviceBox) (pairs : List Pairing) : Type 0 where
+pub record OpenedSoFar (posted : List Msg) (settings : List Settings) (plan : List ChannelOrder) (old before boxes : List DeviceBox) (pairs : List Pairing) : Type 0 where
   pub given : List Given
   pub planned : map (λ g. g.order) given ≡ plan
-  pub opens : EachWith (OpensAt settings old) given pairs
+  pub opens : EachWith (OpensAt posted settings old) given pairs
   pub places : length boxes ≡ length before
   pub still : (k : ℕ) → k < length before → IsStill (box_at before k) (box_at boxes k)
   pub dealt : (k : ℕ) → k < length before → seats_in (box_at before k) ≡ seats_given k given ++ seats_in (box_at boxes k)
   pub fits : AllByRecursion (λ g. kind_in (box_at before g.order.opening.device) ≡ Some (kind_at g.seat)) given
 
 -- all channels are opened, and no seat is left
-pub record AllOpened (settings : List Settings) (plan : List ChannelOrder) (old before boxes : List DeviceBox) (pairs : List Pairing) : Type 0 where
-  pub opened : OpenedSoFar settings plan old before boxes pairs
+pub record AllOpened (posted : List Msg) (settings : List Settings) (plan : List ChannelOrder) (old before boxes : List DeviceBox) (pairs : List Pairing) : Type 0 where
+  pub opened : OpenedSoFar posted settings plan old before boxes pairs
   pub none_left : (k : ℕ) → k < length before → seats_in (box_at boxes k) ≡ []

@@ -13,6 +13,7 @@ use crate::phase_work::PhaseWork;
 use crate::settings::Settings;
 use bus_model::ChannelRun;
 use bus_plan::{ChannelOrder, Outcomes};
+use control_run::ControlPath;
 use device_any::DeviceBox;
 use io_edge::Gate;
 use std::alloc::{AllocError, Global};
@@ -32,6 +33,7 @@ pub fn run_channels<R: Threads + Wait + Sync, G: Gate>(
     boxes: &mut Vec<DeviceBox>,
     settled: &mut Vec<ChannelRun>,
     work: &mut Vec<PhaseWork>,
+    path: &ControlPath,
 ) -> Result<Outcomes, AllocError>
     requires can { (p : Phase) × CanRun phase plan.items boxes.old.items p }
     requires ready { All (IsReady (4096 * phase)) boxes.old.items }
@@ -40,12 +42,12 @@ pub fn run_channels<R: Threads + Wait + Sync, G: Gate>(
     requires phase { phase ≤ 20000 }
     requires few { length boxes.old.items ≤ 16 }
     ensures ran { IfOk result (λ outcomes. (p : Phase) → CanRun phase plan.items boxes.old.items p → ChannelsRan p boxes.old.items boxes.new.items settled.old.items settled.new.items outcomes) }
-    ensures worked { OnOk result ((p : Phase) → CanRun phase plan.items boxes.old.items p → HaveWorked settings.now p settled.old.items settled.new.items work.old.items work.new.items) }
+    ensures worked { OnOk result ((p : Phase) → CanRun phase plan.items boxes.old.items p → HaveWorked path.now.guest.posted settings.now p settled.old.items settled.new.items work.old.items work.new.items) }
     ensures ready { OnOk result (All (IsReady (4096 * (phase + 1))) boxes.new.items) }
 {
     share_all(alloc, phase, &plan, boxes)?;
     let dues = all_due(alloc, &plan)?;
-    let pairs = open_all(alloc, plan, settings, boxes)?;
+    let pairs = open_all(alloc, plan, settings, boxes, path)?;
     let opened = Snapshot::of(&pairs);
     let mut done = Vec::with_capacity(alloc, pairs.len())?;
     bus_threads::run_phase(rt, pairs, &mut done, gate);

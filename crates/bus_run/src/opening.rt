@@ -5,12 +5,14 @@ ghost use Rattle.bus_run.specs.Devices.{IsReady, Suits};
 ghost use Rattle.device_any.specs.Boxes.{IsKept, box_log};
 ghost use Rattle.device_any.specs.declared.device_box.DeviceBox.{DeviceBox as OneBox};
 ghost use Rattle.bus_run.specs.Settings.{HasLimits};
-ghost use Rattle.bus_run.specs.Opening.{AreAway, IsAway, CanOpenAll, IsOpenedWith, AllOpened, order_with, quotas_of};
+ghost use Rattle.bus_run.specs.Opening.{AreAway, IsAway, CanOpenAll, IsOpenedWith, AllOpened, lists_in, order_with, quotas_of};
 
 use crate::settings::Settings;
 use bus_plan::ChannelOrder;
 use bus_threads::{Pair, open_pair};
+use control_run::ControlPath;
 use device_any::{DeviceBox, DeviceSeat};
+use device_formats::BufferLists;
 use std::alloc::{AllocError, Global};
 
 /// Puts the number of a channel's requests behind others, if it is a channel of this device.
@@ -69,7 +71,15 @@ pub fn share_all(
     Ok(())
 }
 
-/// The two workers of a channel, with this seat of its device, which has so many channels beside the first one. The device's end stops where the order says,
+/// The page lists of a channel's buffers, as the guest's control told the host's.
+fn told_lists(path: &ControlPath, relid: u32) -> BufferLists
+    ensures { result ≡ lists_in path.now.guest.posted relid }
+{
+    let (receive, send) = path.last_lists(relid);
+    BufferLists { receive, send }
+}
+
+/// The two workers of a channel, with this seat of its device, which has so many channels beside the first one, and with the page lists of its buffers that the guest's control told. The device's end stops where the order says,
 /// and the requests are moved to the end that asks.
 fn open_channel(
     alloc: Global,
@@ -77,6 +87,7 @@ fn open_channel(
     subs: u32,
     channel: ChannelOrder,
     seat: DeviceSeat,
+    path: &ControlPath,
 ) -> Result<Pair, AllocError>
     requires suits { Suits 4096 (order_with channel (kind_at seat) subs) }
     requires sub { channel.opening.sub ≤ 3 }
@@ -84,9 +95,10 @@ fn open_channel(
     requires limits { HasLimits settings.now }
     requires fresh { served_at seat ≡ [] }
     requires left { left_at seat ≡ length channel.asks.items }
-    ensures { IfOk result (IsOpenedWith settings.now channel.opening.relid (order_with channel (kind_at seat) subs) seat) }
+    ensures { IfOk result (IsOpenedWith path.now.guest.posted settings.now channel.opening.relid (order_with channel (kind_at seat) subs) seat) }
 {
     let kind = seat.kind();
+    let lists = told_lists(path, channel.opening.relid);
     open_pair(
         alloc,
         kind,
@@ -98,20 +110,22 @@ fn open_channel(
         seat,
         channel.asks,
         channel.stop,
+        lists,
     )
 }
 
-/// Opens all channels of a phase, each with the next seat of its device.
+/// Opens all channels of a phase, each with the next seat of its device, and with the page lists that the guest's control told for it.
 pub fn open_all(
     alloc: Global,
     plan: Vec<ChannelOrder>,
     settings: &[Settings],
     boxes: &mut Vec<DeviceBox>,
+    path: &ControlPath,
 ) -> Result<Vec<Pair>, AllocError>
     requires away { (old : List OneBox) × CanOpenAll plan.items old × AreAway plan.items old boxes.old.items }
     requires settings { length settings.now ≡ length boxes.old.items }
     requires limits { All HasLimits settings.now }
-    ensures { IfOk result (λ pairs. (old : List OneBox) → CanOpenAll plan.items old → AreAway plan.items old boxes.old.items → AllOpened settings.now plan.items old boxes.old.items boxes.new.items pairs.items) }
+    ensures { IfOk result (λ pairs. (old : List OneBox) → CanOpenAll plan.items old → AreAway plan.items old boxes.old.items → AllOpened path.now.guest.posted settings.now plan.items old boxes.old.items boxes.new.items pairs.items) }
 {
     let mut pairs = Vec::with_capacity(alloc, plan.len())?;
     for channel in plan {
@@ -119,7 +133,7 @@ pub fn open_all(
         let own = &mut boxes[at];
         let subs = own.subs();
         let seat = own.take_first();
-        let pair = open_channel(alloc, &settings[at], subs, channel, seat)?;
+        let pair = open_channel(alloc, &settings[at], subs, channel, seat, path)?;
         pairs.push(pair)?;
     }
     Ok(pairs)

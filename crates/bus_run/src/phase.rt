@@ -19,6 +19,7 @@ use bus_model::ChannelRun;
 use bus_plan::{Ending, line_results, mark_ended, plan_part};
 use bus_script::{Line, LineResult};
 use contact::Version;
+use control_run::ControlPath;
 use device_any::DeviceBox;
 use io_edge::Gate;
 use std::alloc::{AllocError, Global};
@@ -52,6 +53,7 @@ pub fn run_script_phase<R: Threads + Wait + Sync, G: Gate>(
     settled: &mut Vec<ChannelRun>,
     results: &mut Vec<LineResult>,
     work: &mut Vec<PhaseWork>,
+    path: &ControlPath,
 ) -> Result<(), AllocError>
     requires ready { All (IsReady (4096 * phase)) boxes.old.items }
     requires right { AllRight (specs_of boxes.old.items) part.now }
@@ -67,7 +69,7 @@ pub fn run_script_phase<R: Threads + Wait + Sync, G: Gate>(
     requires channels { sum_by channels_of (specs_of boxes.old.items) ≤ 16 }
     requires phase { phase ≤ 20000 }
     ensures ran { OnOk result ((p : Phase) → IsThis version.0 phase part.now ended.old (specs_of boxes.old.items) relid.old p → PhaseRan p boxes.old.items boxes.new.items settled.old.items settled.new.items results.old.items results.new.items) }
-    ensures worked { OnOk result ((p : Phase) → IsThis version.0 phase part.now ended.old (specs_of boxes.old.items) relid.old p → HaveWorked settings.now p settled.old.items settled.new.items work.old.items work.new.items) }
+    ensures worked { OnOk result ((p : Phase) → IsThis version.0 phase part.now ended.old (specs_of boxes.old.items) relid.old p → HaveWorked path.now.guest.posted settings.now p settled.old.items settled.new.items work.old.items work.new.items) }
     ensures relid { OnOk result ((p : Phase) → IsThis version.0 phase part.now ended.old (specs_of boxes.old.items) relid.old p → relid.new ≡ relid.old + length (others p.opened)) }
     ensures few { OnOk result (relid.new ≤ relid.old + 48) }
     ensures ready { OnOk result (All (IsReady (4096 * (phase + 1))) boxes.new.items) }
@@ -76,7 +78,9 @@ pub fn run_script_phase<R: Threads + Wait + Sync, G: Gate>(
 {
     let subs = all_subs(alloc, boxes)?;
     let plan = plan_part(alloc, ended, &subs, relid, part)?;
-    let outcomes = run_channels(rt, gate, alloc, phase, plan, settings, boxes, settled, work)?;
+    let outcomes = run_channels(
+        rt, gate, alloc, phase, plan, settings, boxes, settled, work, path,
+    )?;
     line_results(version, ended, outcomes, part, results)?;
     mark_ended(ended, part);
     Ok(())

@@ -255,6 +255,7 @@ impl Runner {
             &mut self.settled,
             &mut self.results,
             &mut self.work,
+            path,
         )?;
         self.phase += 1;
         self.next = behind(at, next);

@@ -11,6 +11,7 @@ use Rattle.channel_trace.specs.Laws.{AreOfOneRun}
 use Rattle.bus_script.specs.declared.outcome.Reply.{Reply}
 use Rattle.device_formats.specs.declared.want.Want.TheVariants.{Script}
 use Rattle.device_formats.specs.Wants.{IsAskable}
+use Rattle.device_formats.specs.declared.buffer_lists.BufferLists.{BufferLists}
 use Rattle.device_formats.specs.Formats.{format_of}
 use Rattle.device_formats.proofs.FormatLaws.{keeps, start_is_fixed, script_asks}
 use Rattle.channel_model.specs.Server.{answered}
@@ -23,39 +24,39 @@ use Rattle.bus_threads.specs.Pairs.{LeavesOne}
 use Rattle.bus_threads.proofs.Stops.{all_called_for, none_held}
 
 -- the ends of both workers, for what the phase orders
-pub record BothEnd (order : Order) (asker server : List (Event Item)) (calls : List Served) (told : List Reply) : Type 0 where
+pub record BothEnd (order : Order) (tells : BufferLists) (asker server : List (Event Item)) (calls : List Served) (told : List Reply) : Type 0 where
   pub can : AllByRecursion (IsAskable order.kind) order.asks
   pub one : AreOfOneRun asker server
-  pub asker_ends : AskerEnds (format_of order.kind) (plan_of order) asker told
-  pub server_ends : ServerEnds (format_of order.kind) (plan_of order) server calls
+  pub asker_ends : AskerEnds (format_of order.kind) (plan_of tells order) asker told
+  pub server_ends : ServerEnds (format_of order.kind) (plan_of tells order) server calls
 
-plan_is : (order : Order) → AllByRecursion (IsAskable order.kind) order.asks → IsRequestPlan (format_of order.kind) (plan_of order)
-plan_is order can = record {
-  fixed = start_is_fixed order.kind order.sub order.subs;
+plan_is : (order : Order) (tells : BufferLists) → AllByRecursion (IsAskable order.kind) order.asks → IsRequestPlan (format_of order.kind) (plan_of tells order)
+plan_is order tells can = record {
+  fixed = start_is_fixed order.kind order.sub order.subs tells;
   asks = script_asks order.kind order.asks can;
 }
 
-run_of : (order : Order) (asker server : List (Event Item)) (calls : List Served) (told : List Reply) → BothEnd order asker server calls told
-    → Runs (format_of order.kind) (plan_of order) (sent_of asker) (got_of asker) (sent_of server) (got_of server) calls told
-run_of order asker server calls told both =
-    joins (format_of order.kind) (keeps order.kind) (plan_of order) (plan_is order both.can) asker server calls told both.one both.asker_ends both.server_ends
+run_of : (order : Order) (tells : BufferLists) (asker server : List (Event Item)) (calls : List Served) (told : List Reply) → BothEnd order tells asker server calls told
+    → Runs (format_of order.kind) (plan_of tells order) (sent_of asker) (got_of asker) (sent_of server) (got_of server) calls told
+run_of order tells asker server calls told both =
+    joins (format_of order.kind) (keeps order.kind) (plan_of tells order) (plan_is order tells both.can) asker server calls told both.one both.asker_ends both.server_ends
 
 -- where the service leaves a request without its answer, the end that asks doesn't settle all
-pub never_settles : (order : Order) (asker server : List (Event Item)) (calls : List Served) (told : List Reply) → BothEnd order asker server calls told → (k : ℕ × Bool) → order.stop ≡ Some k → LeavesOne k (length order.asks)
-    → AskerSettles (format_of order.kind) (plan_of order) asker → ⊥
-never_settles order asker server calls told both k stop (inl less) settles =
+pub never_settles : (order : Order) (tells : BufferLists) (asker server : List (Event Item)) (calls : List Served) (told : List Reply) → BothEnd order tells asker server calls told → (k : ℕ × Bool) → order.stop ≡ Some k → LeavesOne k (length order.asks)
+    → AskerSettles (format_of order.kind) (plan_of tells order) asker → ⊥
+never_settles order tells asker server calls told both k stop (inl less) settles =
     let s = format_of order.kind in
-    let plan = plan_of order in
-    let run = run_of order asker server calls told both in
+    let plan = plan_of tells order in
+    let run = run_of order tells asker server calls told both in
     let done = settles_in_order s (channel_asks s plan) asker server both.one both.server_ends.order both.asker_ends.encoded in
     let count = length-map order.asks Script in
     let serve = ap (λ o. count_of o (length plan.script)) stop in
-    let called = all_called_for s (keeps order.kind) plan asker server calls told told (plan_is order both.can) both.asker_ends done settles run in
+    let called = all_called_for s (keeps order.kind) plan asker server calls told told (plan_is order tells both.can) both.asker_ends done settles run in
     omega (arith, called, run.count, serve, count, less)
-never_settles order asker server calls told both k stop (inr (is, some, most)) settles =
+never_settles order tells asker server calls told both k stop (inr (is, some, most)) settles =
     let s = format_of order.kind in
-    let plan = plan_of order in
-    let run = run_of order asker server calls told both in
+    let plan = plan_of tells order in
+    let run = run_of order tells asker server calls told both in
     let done = settles_in_order s (channel_asks s plan) asker server both.one both.server_ends.order both.asker_ends.encoded in
     let count = length-map order.asks Script in
     let serve = ap (λ o. count_of o (length plan.script)) stop in
@@ -65,11 +66,11 @@ never_settles order asker server calls told both k stop (inr (is, some, most)) s
     none_held s (keeps order.kind) plan asker server calls told told both.asker_ends done settles run held (omega (arith, serve, some, within))
 
 -- the replies that were read are those of the calls that were answered, in order
-pub told_is : (order : Order) (asker server : List (Event Item)) (calls : List Served) (told : List Reply) → BothEnd order asker server calls told → told ≡ map (λ c. c.reply) (replies_to order calls)
-told_is order asker server calls told both =
-    (run_of order asker server calls told both).replies ∙ ap (λ m. map (λ (c : Served). c.reply) (answered (format_of order.kind) (held_of order.stop m) (count_of order.stop m) calls)) (length-map order.asks Script)
+pub told_is : (order : Order) (tells : BufferLists) (asker server : List (Event Item)) (calls : List Served) (told : List Reply) → BothEnd order tells asker server calls told → told ≡ map (λ c. c.reply) (replies_to order calls)
+told_is order tells asker server calls told both =
+    (run_of order tells asker server calls told both).replies ∙ ap (λ m. map (λ (c : Served). c.reply) (answered (format_of order.kind) (held_of order.stop m) (count_of order.stop m) calls)) (length-map order.asks Script)
 
-pub runs : (order : Order) (asker server : List (Event Item)) (calls : List Served) (told : List Reply) → BothEnd order asker server calls told
-    → Runs (format_of order.kind) (plan_of order) (sent_of asker) (got_of asker) (sent_of server) (got_of server) calls (map (λ c. c.reply) (replies_to order calls))
-runs order asker server calls told both =
-    subst (λ t. Runs (format_of order.kind) (plan_of order) (sent_of asker) (got_of asker) (sent_of server) (got_of server) calls t) (told_is order asker server calls told both) (run_of order asker server calls told both)
+pub runs : (order : Order) (tells : BufferLists) (asker server : List (Event Item)) (calls : List Served) (told : List Reply) → BothEnd order tells asker server calls told
+    → Runs (format_of order.kind) (plan_of tells order) (sent_of asker) (got_of asker) (sent_of server) (got_of server) calls (map (λ c. c.reply) (replies_to order calls))
+runs order tells asker server calls told both =
+    subst (λ t. Runs (format_of order.kind) (plan_of tells order) (sent_of asker) (got_of asker) (sent_of server) (got_of server) calls t) (told_is order tells asker server calls told both) (run_of order tells asker server calls told both)

@@ -3,6 +3,7 @@ use Rattle.std.proofs.Common.{◌≡◌, ℕ, length, [], Some, None, refl, ap, 
 use Rattle.script_lines.specs.declared.line.Ask.{Ask}
 use Rattle.bus_script.specs.declared.outcome.Reply.{Reply}
 use Rattle.device_formats.specs.ChannelScript.{ChannelScript}
+use Rattle.device_formats.specs.declared.buffer_lists.BufferLists.{BufferLists}
 use Rattle.bus_model.specs.Orders.{Order}
 use Rattle.io_edge.specs.declared.side.Side.{Side}
 use Rattle.io_edge.specs.declared.side.Side.TheVariants.{Guest, Host}
@@ -21,7 +22,7 @@ use Rattle.worker_pair.specs.Workers.{end_at, relid_at, HasWindow}
 use Rattle.device_any.specs.declared.device_seat.DeviceSeat.{DeviceSeat}
 use Rattle.worker_pair.specs.declared.worker.Worker.{Worker}
 use Rattle.worker_pair.specs.declared.worker.Worker.TheVariants.{Asks, Serves}
-use Rattle.bus_threads.specs.Pairs.{Pairing, AreOnChannel, MadeFor, Opens, OpensAt}
+use Rattle.bus_threads.specs.Pairs.{Pairing, AreOnChannel, MadeFor, Opens, OpensAt, lists_of, told_lists}
 
 -- what a plan orders of a channel
 abbrev pub ordered : Planned → Order
@@ -31,7 +32,7 @@ ordered p = record { kind = p.kind; sub = p.sub; subs = p.subs; asks = p.asks; s
 made_for : (p : Planned) (seat : DeviceSeat) (a : Asking ChannelScript TableSeat Reply) (s : Serving ChannelScript DeviceSeat TableSeat Ask Reply) → p.count ≡ length p.asks → served_at seat ≡ [] → AsksFor p a → ServesFor p seat s → MadeFor (ordered p) seat [] a s
 made_for p seat a s count fresh asked served = record {
   can = asked.can;
-  protocol = asked.protocol;
+  protocol = asked.protocol ∙ ap (λ (l : BufferLists). record { kind = p.kind; sub = p.sub; subs = p.subs; lists = l; asks = p.asks }) (sym (ap (λ (t : ChannelScript). t.lists) asked.protocol));
   answers = served.answers;
   seat_is = served.seat_is;
   before = served.before ∙ fresh;
@@ -51,6 +52,18 @@ opens_at Host p seat (Serves s) (Serves t) is count fresh made = absurd made.1
 
 pub opens : (p : Planned) (seat : DeviceSeat) (pair : Pairing) → p.count ≡ length p.asks → served_at seat ≡ [] → AreMadeAt (side_that_asks p.kind) p seat pair.guest pair.host → Opens (ordered p) seat pair
 opens p seat pair count fresh made = opens_at (side_that_asks p.kind) p seat pair.guest pair.host refl count fresh made
+
+-- and tell its page lists
+told_at_side : (side : Side) (p : Planned) (seat : DeviceSeat) (guest host : Worker) → AreMadeAt side p seat guest host → told_lists guest host ≡ p.lists
+told_at_side Guest p seat (Asks a) (Asks b) made = absurd made.1
+told_at_side Guest p seat (Asks a) (Serves s) made = ap (λ (t : ChannelScript). t.lists) made.0.protocol
+told_at_side Guest p seat (Serves s) host made = absurd made.0
+told_at_side Host p seat (Asks a) host made = absurd made.0
+told_at_side Host p seat (Serves s) (Asks a) made = ap (λ (t : ChannelScript). t.lists) made.1.protocol
+told_at_side Host p seat (Serves s) (Serves t) made = absurd made.1
+
+pub told_on : (p : Planned) (seat : DeviceSeat) (pair : Pairing) → AreMadeAt (side_that_asks p.kind) p seat pair.guest pair.host → lists_of pair ≡ p.lists
+told_on p seat pair made = told_at_side (side_that_asks p.kind) p seat pair.guest pair.host made
 
 -- in their pair they were made for it too
 pub made_as : (p : Planned) (seat : DeviceSeat) (guest host : Worker) (pair : Pairing) → (pair.guest ≡ guest) × (pair.host ≡ host) → AreMadeAt (side_that_asks p.kind) p seat guest host → AreMadeAt (side_that_asks p.kind) p seat pair.guest pair.host

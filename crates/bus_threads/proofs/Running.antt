@@ -17,7 +17,9 @@ use Rattle.script_lines.specs.declared.line.Ask.{Ask}
 use Rattle.bus_script.specs.declared.outcome.Reply.{Reply}
 use Rattle.device_formats.specs.Formats.{besides_on, format_of}
 use Rattle.device_formats.specs.Items.{said_item}
-use Rattle.device_formats.specs.Wants.{startup}
+use Rattle.device_formats.specs.Wants.{no_lists, startup}
+use Rattle.device_formats.specs.declared.buffer_lists.BufferLists.{BufferLists}
+use Rattle.device_formats.proofs.StartLaws.{same_answers}
 use Rattle.device_formats.proofs.FormatLaws.{keeps, start_is_fixed}
 use Rattle.device_formats.specs.ChannelScript.{ChannelScript, asks_of}
 use Rattle.device_formats.specs.declared.want.Want.{Want}
@@ -84,7 +86,7 @@ is_whole_of Broken is honest = absurd (cc (honest))
 few_for : (a : Asking ChannelScript TableSeat Reply) (s : Serving ChannelScript DeviceSeat TableSeat Ask Reply) (asked : WorkerDone) → PlansAgree a s → LeavesAsked a asked → s.stops ≡ false → length (filter (is_asked (format_of s.responder.protocol.kind)) (sent_of (items_in asked.end))) ≤ s.serve
 few_for a s asked agree leaves go =
     let kind = a.protocol.kind in
-    let few = few_asked (format_of kind) (keeps kind) asked.ended (startup kind a.protocol.sub a.protocol.subs) (map Script a.protocol.asks) (items_in asked.end) asked.replies.items (start_is_fixed kind a.protocol.sub a.protocol.subs) leaves.asks in
+    let few = few_asked (format_of kind) (keeps kind) asked.ended (startup kind a.protocol.sub a.protocol.subs a.protocol.lists) (map Script a.protocol.asks) (items_in asked.end) asked.replies.items (start_is_fixed kind a.protocol.sub a.protocol.subs a.protocol.lists) leaves.asks in
     omega (arith, ap (λ k. length (filter (is_asked (format_of k)) (sent_of (items_in asked.end)))) agree.kind, few, length-map a.protocol.asks Script, agree.calls go)
 
 -- neither ended for want of room, or of a call
@@ -110,92 +112,96 @@ ends_all s besides (Room packets words left) w e calls whole by = absurd (cc (wh
 ends_all s besides Broken w e calls whole by = absurd (cc (whole))
 
 -- the end that asks, for what the phase orders
-asker_ends : (order : Order) (protocol : ChannelScript) (past : List (Event Item)) (told : List Reply) → protocol ≡ record { kind = order.kind; sub = order.sub; subs = order.subs; asks = order.asks } → AsksAll (format_of protocol.kind) (asks_of protocol) past told
-    → AskerEnds (format_of order.kind) (plan_of order) past told
-asker_ends order protocol past told is all = subst (λ (t : ChannelScript). AsksAll (format_of t.kind) (asks_of t) past told) is all (plan_of order) refl
+asker_ends : (order : Order) (tells : BufferLists) (protocol : ChannelScript) (past : List (Event Item)) (told : List Reply) → protocol ≡ record { kind = order.kind; sub = order.sub; subs = order.subs; lists = tells; asks = order.asks } → AsksAll (format_of protocol.kind) (asks_of protocol) past told
+    → AskerEnds (format_of order.kind) (plan_of tells order) past told
+asker_ends order tells protocol past told is all = subst (λ (t : ChannelScript). AsksAll (format_of t.kind) (asks_of t) past told) is all (plan_of tells order) refl
 
 -- and the one that serves
-server_ends : (order : Order) (seat : DeviceSeat) (earlier : List Served) (a : Asking ChannelScript TableSeat Reply) (s : Serving ChannelScript DeviceSeat TableSeat Ask Reply) (past : List (Event Item)) (calls : List Served) → MadeFor order seat earlier a s
-    → EndsAll (format_of s.responder.protocol.kind) s past calls → ServerEnds (format_of order.kind) (plan_of order) past calls
-server_ends order seat earlier a s past calls made all =
-    subst (λ k. EndsAll (format_of k) s past calls) made.answers all (plan_of order) (record {
+server_ends : (order : Order) (tells : BufferLists) (seat : DeviceSeat) (earlier : List Served) (a : Asking ChannelScript TableSeat Reply) (s : Serving ChannelScript DeviceSeat TableSeat Ask Reply) (past : List (Event Item)) (calls : List Served) → MadeFor order seat earlier a s
+    → EndsAll (format_of s.responder.protocol.kind) s past calls → ServerEnds (format_of order.kind) (plan_of tells order) past calls
+server_ends order tells seat earlier a s past calls made all =
+    subst (λ k. EndsAll (format_of k) s past calls) made.answers all (plan_of tells order) (record {
       serve = made.serve ∙ ap (count_of order.stop) (sym (length-map order.asks Script));
       held = made.held ∙ ap (held_of order.stop) (sym (length-map order.asks Script));
       stops = made.stops;
-      starts = made.starts;
+      starts = made.starts ∙ same_answers order.kind order.sub order.subs no_lists tells;
     })
 
 -- the lists of a run are those that the joined ends tell
-lists_are : (side : Side) (order : Order) (a b c d : List Item) (lists : Lists) (calls : List Served) → sent_by side lists ≡ a → got_by side lists ≡ b → sent_by (other side) lists ≡ c → got_by (other side) lists ≡ d
-    → Runs (format_of order.kind) (plan_of order) a b c d calls (map (λ c. c.reply) (replies_to order calls)) → Carries side order lists calls
-lists_are side order a b c d lists calls e f g h run =
-    let Of : List Item → List Item → List Item → List Item → Type 0 = λ x y z w. Runs (format_of order.kind) (plan_of order) x y z w calls (map (λ c. c.reply) (replies_to order calls)) in
+lists_are : (side : Side) (order : Order) (tells : BufferLists) (a b c d : List Item) (lists : Lists) (calls : List Served) → sent_by side lists ≡ a → got_by side lists ≡ b → sent_by (other side) lists ≡ c → got_by (other side) lists ≡ d
+    → Runs (format_of order.kind) (plan_of tells order) a b c d calls (map (λ c. c.reply) (replies_to order calls)) → Carries side order tells lists calls
+lists_are side order tells a b c d lists calls e f g h run =
+    let Of : List Item → List Item → List Item → List Item → Type 0 = λ x y z w. Runs (format_of order.kind) (plan_of tells order) x y z w calls (map (λ c. c.reply) (replies_to order calls)) in
     subst (λ x. Of x (got_by side lists) (sent_by (other side) lists) (got_by (other side) lists)) (sym e) (subst (λ x. Of a x (sent_by (other side) lists) (got_by (other side) lists)) (sym f)
     (subst (λ x. Of a b x (got_by (other side) lists)) (sym g) (subst (λ x. Of a b c x) (sym h) run)))
 
 -- what came is all that was sent where the service doesn't stop, since as much is read of it
-arrives_at : (side : Side) (order : Order) (lists : Lists) (calls : List Served) → IsFront (items_got Host lists) (items_sent Guest lists) → IsFront (items_got Guest lists) (items_sent Host lists) → Carries side order lists calls → ItemsArrive order lists
-arrives_at Guest order lists calls at_host at_guest run = record {
+arrives_at : (side : Side) (order : Order) (tells : BufferLists) (lists : Lists) (calls : List Served) → IsFront (items_got Host lists) (items_sent Guest lists) → IsFront (items_got Guest lists) (items_sent Host lists) → Carries side order tells lists calls → ItemsArrive order lists
+arrives_at Guest order tells lists calls at_host at_guest run = record {
   at_host = at_host;
   at_guest = at_guest;
   whole = λ all. (front_all said_item (items_got Host lists) (items_sent Guest lists) at_host (run.whole_got all), front_all said_item (items_got Guest lists) (items_sent Host lists) at_guest run.answers_got);
 }
-arrives_at Host order lists calls at_host at_guest run = record {
+arrives_at Host order tells lists calls at_host at_guest run = record {
   at_host = at_host;
   at_guest = at_guest;
   whole = λ all. (front_all said_item (items_got Host lists) (items_sent Guest lists) at_host run.answers_got, front_all said_item (items_got Guest lists) (items_sent Host lists) at_guest (run.whole_got all));
 }
 
 -- ids are used in turn
-turns_at : (order : Order) (lists : Lists) (past : List (Event Item)) (most : ℕ) → sent_by (side_that_asks order.kind) lists ≡ sent_of past → got_by (side_that_asks order.kind) lists ≡ got_of past
-    → Encoded (format_of order.kind) (channel_asks (format_of order.kind) (plan_of order)) (requests_of (format_of order.kind) past) → AskedFrom (format_of order.kind) most (startup order.kind order.sub order.subs ++ map Script order.asks) past → InTurn order lists
-turns_at order lists past most sent got encoded from = λ t.
+turns_at : (order : Order) (tells : BufferLists) (lists : Lists) (past : List (Event Item)) (most : ℕ) → sent_by (side_that_asks order.kind) lists ≡ sent_of past → got_by (side_that_asks order.kind) lists ≡ got_of past
+    → Encoded (format_of order.kind) (channel_asks (format_of order.kind) (plan_of tells order)) (requests_of (format_of order.kind) past) → AskedFrom (format_of order.kind) most (startup order.kind order.sub order.subs tells ++ map Script order.asks) past → InTurn order lists
+turns_at order tells lists past most sent got encoded from = λ t.
     let s = format_of order.kind in
-    subst (λ (l : List Item × List Item). count_by (asks_under s t) l.0 ≤ count_by (answers_under s t) l.1 + 1) (λ i. (sym sent i, sym got i)) (in_turn s most (channel_asks s (plan_of order)) past encoded from t)
+    subst (λ (l : List Item × List Item). count_by (asks_under s t) l.0 ≤ count_by (answers_under s t) l.1 + 1) (λ i. (sym sent i, sym got i)) (in_turn s most (channel_asks s (plan_of tells order)) past encoded from t)
 
 -- the channel ran, and each request that was served was a call of the seat
-pub record RanBy (order : Order) (seat : DeviceSeat) (earlier : List Served) (back : DeviceSeat) (lists : Lists) (asked served : WorkerDone) : Type 0 where
+pub record RanBy (order : Order) (tells : BufferLists) (seat : DeviceSeat) (earlier : List Served) (back : DeviceSeat) (lists : Lists) (asked served : WorkerDone) : Type 0 where
   pub before : take (length earlier) (served_at back) ≡ earlier
   pub channel : IsChannelRun order lists (calls_behind earlier (served_at back))
+  pub told : channel.tells ≡ tells
   pub same : IsSameSeat seat back
   pub serials : served.serials.items ≡ map (λ s. s.serial) (calls_behind earlier (served_at back))
   pub replies : asked.replies.items ≡ map (λ s. s.reply) (replies_to order (calls_behind earlier (served_at back)))
   pub marks : MarkedFirst order.stop (length order.asks) asked.ended served.ended
 
 ran : (order : Order) (seat : DeviceSeat) (earlier : List Served) (a : Asking ChannelScript TableSeat Reply) (s : Serving ChannelScript DeviceSeat TableSeat Ask Reply) (asked served : WorkerDone) (lists : Lists) (side : Side) → side_that_asks order.kind ≡ side → MadeFor order seat earlier a s
-    → (both : BothLeave a s asked served lists side) → RanBy order seat earlier both.server_leaves.back lists asked served
+    → (both : BothLeave a s asked served lists side) → RanBy order a.protocol.lists seat earlier both.server_leaves.back lists asked served
 ran order seat earlier a s asked served lists side at_side made ended =
+    let tells = a.protocol.lists in
     let told = asked.replies.items in
     let all = served_at ended.server_leaves.back in
     let calls = calls_behind earlier all in
     let behind : calls_behind s.responder.before all ≡ calls = ap (λ l. calls_behind l all) made.before in
     let whole = both_whole a s asked served lists side ended in
     let at : Joins asked.end served.end lists (side_that_asks order.kind) = subst (Joins asked.end served.end lists) (sym at_side) ended.joins in
-    let both : BothEnd order (items_in asked.end) (items_in served.end) calls told = record {
+    let both : BothEnd order tells (items_in asked.end) (items_in served.end) calls told = record {
       can = made.can;
       one = at.one;
-      asker_ends = asker_ends order a.protocol (items_in asked.end) told made.protocol (asks_all _ asked.ended _ _ _ whole.0 ended.asker_leaves.asks);
-      server_ends = server_ends order seat earlier a s (items_in served.end) calls made (ends_all _ _ served.ended _ _ _ whole.1 (subst (λ l. EndsBy (format_of s.responder.protocol.kind) (besides_on s.responder.protocol.kind) served.ended s (line_of said_item served.end) l) behind ended.server_leaves.serves));
+      asker_ends = asker_ends order tells a.protocol (items_in asked.end) told made.protocol (asks_all _ asked.ended _ _ _ whole.0 ended.asker_leaves.asks);
+      server_ends = server_ends order tells seat earlier a s (items_in served.end) calls made (ends_all _ _ served.ended _ _ _ whole.1 (subst (λ l. EndsBy (format_of s.responder.protocol.kind) (besides_on s.responder.protocol.kind) served.ended s (line_of said_item served.end) l) behind ended.server_leaves.serves));
     } in
-    let carried : Carries (side_that_asks order.kind) order lists calls =
-    lists_are (side_that_asks order.kind) order _ _ _ _ lists calls at.asker_sent at.asker_got at.server_sent at.server_got (runs order (items_in asked.end) (items_in served.end) calls told both) in
+    let carried : Carries (side_that_asks order.kind) order tells lists calls =
+    lists_are (side_that_asks order.kind) order tells _ _ _ _ lists calls at.asker_sent at.asker_got at.server_sent at.server_got (runs order tells (items_in asked.end) (items_in served.end) calls told both) in
     let kinds : SendsKinds (format_of order.kind) (items_in asked.end) = subst (λ (t : ChannelScript). SendsKinds (format_of t.kind) (items_in asked.end)) made.protocol ended.asker_leaves.sent.kinds.kinds in
     let only = subst (AllByRecursion (λ (p : Item). is_of_asker order.kind p ≡ true)) (sym at.asker_sent) (alone (format_of order.kind) (keeps order.kind) (sent_of (items_in asked.end)) kinds) in
     record {
       before = ap (λ (l : List Served). take (length l) all) (sym made.before) ∙ (ended.server_leaves.before ∙ made.before);
       channel = record {
+        tells = tells;
         carried = carried;
         alone = only;
-        serves = serves_first_lem (side_that_asks order.kind) order lists calls made.can carried;
-        arrive = arrives_at (side_that_asks order.kind) order lists calls at.at_host at.at_guest carried;
-        turns = turns_at order lists (items_in asked.end) (length a.table) at.asker_sent at.asker_got both.asker_ends.encoded (subst (λ (t : ChannelScript). AskedFrom (format_of t.kind) (length a.table) (asks_of t) (items_in asked.end)) made.protocol ended.asker_leaves.ids);
+        serves = serves_first_lem (side_that_asks order.kind) order tells lists calls made.can carried;
+        arrive = arrives_at (side_that_asks order.kind) order tells lists calls at.at_host at.at_guest carried;
+        turns = turns_at order tells lists (items_in asked.end) (length a.table) at.asker_sent at.asker_got both.asker_ends.encoded (subst (λ (t : ChannelScript). AskedFrom (format_of t.kind) (length a.table) (asks_of t) (items_in asked.end)) made.protocol ended.asker_leaves.ids);
       };
+      told = refl;
       same = ended.server_leaves.place ∙ ap device_place made.seat_is;
       serials = ended.server_leaves.serials ∙ ap (map (λ c. c.serial)) behind;
-      replies = told_is order (items_in asked.end) (items_in served.end) calls told both;
+      replies = told_is order tells (items_in asked.end) (items_in served.end) calls told both;
       marks = marked_first order.stop (length order.asks) asked.ended served.ended (items_in asked.end) (items_in served.end) at.one (asks_so _ asked.ended _ _ _ whole.0 ended.asker_leaves.asks) (serves_so _ _ served.ended s (line_of said_item served.end) _ whole.1 ended.server_leaves.serves)
-          (λ none. stops_nowhere (format_of order.kind) (plan_of order) (items_in served.end) calls none both.server_ends)
-          (λ k stop leaves marked unseen. never_settles order (items_in asked.end) (items_in served.end) calls told both k stop leaves (settled_first (format_of order.kind) (plan_of order) (items_in asked.end) told both.asker_ends marked unseen));
+          (λ none. stops_nowhere (format_of order.kind) (plan_of tells order) (items_in served.end) calls none both.server_ends)
+          (λ k stop leaves marked unseen. never_settles order tells (items_in asked.end) (items_in served.end) calls told both k stop leaves (settled_first (format_of order.kind) (plan_of tells order) (items_in asked.end) told both.asker_ends marked unseen));
     }
 
 -- the done's ends, by the side that asks
@@ -347,6 +353,7 @@ runs_pair (Asks a) (Serves s) guest host done closes =
             replies = none_after done.replies.items guest.replies.items host.replies.items closes.replies closes.host_leaves.replies ∙ r.replies;
             marks = marks_at order Guest done guest.ended host.ended opens.0 closes.guest_ended closes.host_ended r.marks;
           };
+      tells = λ order seat earlier opens. (ran order seat earlier a s guest host done.settled Guest opens.0 opens.1 both).told;
     }
 runs_pair (Serves s) (Asks a) guest host done closes =
     let both = host_asks a s guest host done closes in
@@ -367,5 +374,6 @@ runs_pair (Serves s) (Asks a) guest host done closes =
             replies = none_before done.replies.items guest.replies.items host.replies.items closes.replies closes.guest_leaves.replies ∙ r.replies;
             marks = marks_at order Host done host.ended guest.ended opens.0 closes.host_ended closes.guest_ended r.marks;
           };
+      tells = λ order seat earlier opens. (ran order seat earlier a s host guest done.settled Host opens.0 opens.1 both).told;
     }
 runs_pair (Serves s) (Serves t) guest host done closes = absurd closes.pair.roles

@@ -9,7 +9,8 @@ use Rattle.script_lines.specs.declared.line.Ask.{Ask}
 use Rattle.bus_script.specs.declared.outcome.Reply.{Reply}
 use Rattle.device_formats.specs.Formats.{has_answer_on}
 use Rattle.device_formats.specs.ChannelScript.{ChannelScript}
-use Rattle.device_formats.specs.Wants.{IsAskable}
+use Rattle.device_formats.specs.Wants.{IsAskable, no_lists}
+use Rattle.device_formats.specs.declared.buffer_lists.BufferLists.{BufferLists}
 use Rattle.device_any.specs.Seats.{served_at, IsSameSeat}
 use Rattle.worker_pair.specs.Seats.{at_guest, at_host}
 use Rattle.worker_pair.specs.Pairs.{ArePair}
@@ -43,14 +44,23 @@ pub record IsPaired (p : Pairing) : Type 0 where
 -- serves as many requests, holds the answer to the last one where the order says so, and stops where the order does
 pub record MadeFor (order : Order) (seat : DeviceSeat) (earlier : List Served) (asker : Asking ChannelScript TableSeat Reply) (server : Serving ChannelScript DeviceSeat TableSeat Ask Reply) : Type 0 where
   pub can : AllByRecursion (IsAskable order.kind) order.asks
-  pub protocol : asker.protocol ≡ record { kind = order.kind; sub = order.sub; subs = order.subs; asks = order.asks }
+  pub protocol : asker.protocol ≡ record { kind = order.kind; sub = order.sub; subs = order.subs; lists = asker.protocol.lists; asks = order.asks }
   pub answers : server.responder.protocol.kind ≡ order.kind
   pub seat_is : server.responder.seat ≡ seat
   pub before : server.responder.before ≡ earlier
   pub serve : server.serve ≡ served_count order
   pub held : server.responder.held ≡ is_held order
   pub stops : server.stops ≡ is_some order.stop
-  pub starts : server.starts ≡ length (filter (has_answer_on order.kind) (startup_of order))
+  pub starts : server.starts ≡ length (filter (has_answer_on order.kind) (startup_of no_lists order))
+
+-- the page lists that the worker that asks tells
+abbrev pub told_lists : Worker → Worker → BufferLists
+told_lists (Asks a) host = a.protocol.lists
+told_lists (Serves s) (Asks a) = a.protocol.lists
+told_lists (Serves s) (Serves t) = no_lists
+
+abbrev pub lists_of : Pairing → BufferLists
+lists_of p = told_lists p.guest p.host
 
 -- and the one that asks is at the side that asks such a device
 abbrev pub OpensAt : Order → DeviceSeat → List Served → Worker → Worker → Type 0
@@ -139,12 +149,13 @@ KeepsSeats (Serves s) (Asks a) guest host = ComesBack s.responder.seat guest × 
 KeepsSeats (Serves s) (Serves t) guest host = ⊥
 
 -- both workers of a pair ended where their plans end, with their seats; and for each order that the pair was opened for, it has run, behind the calls that the
--- seat had made before
+-- seat had made before, and what the start-up of its channel told are the pair's page lists
 pub record RunsPair (p : Pairing) (done : PairDone) : Type 0 where
   pub guest : is_whole done.guest ≡ true
   pub host : is_whole done.host ≡ true
   pub seats : KeepsSeats p.guest p.host (at_guest done.guest_seat) (at_host done.host_seat)
   pub runs : (order : Order) (seat : DeviceSeat) (earlier : List Served) → OpensBehind order seat earlier p → RanBehind order seat earlier done
+  pub tells : (order : Order) (seat : DeviceSeat) (earlier : List Served) → (opens : OpensBehind order seat earlier p) → (runs order seat earlier opens).channel.tells ≡ lists_of p
 
 -- each pair has run, in order
 abbrev pub EachRuns : List Pairing → List PairDone → Type 0

@@ -11,6 +11,7 @@ ghost use Rattle.control_model.specs.Host.{new_host};
 ghost use Rattle.control_laws.specs.Over.{IsOver};
 ghost use Rattle.control_side.specs.Sides.{Serves};
 ghost use Rattle.guest_end.specs.AsSide.{guest_side};
+ghost use Rattle.guest_end.specs.Told.{lists_told};
 ghost use Rattle.host_end.specs.AsSide.{host_side};
 ghost use Rattle.mail_box.specs.Mail.{Closes};
 ghost use Rattle.control_run.specs.Path.{AreNew, joined, Rests, RanPart, EndsInWant, RanInWant};
@@ -74,6 +75,13 @@ impl ControlPath {
         ensures { result ≡ part_after self.now.guest.plan self.now.guest.part }
     {
         self.guest.next_part()
+    }
+
+    /// The handles of the last two page lists that the guest told the host for a channel: those of the buffers of an open network's channel, the receive buffer's first. 0 stands for none.
+    pub fn last_lists(&self, relid: u32) -> (u32, u32)
+        ensures { result ≡ lists_told relid (0, 0) self.now.guest.posted }
+    {
+        self.guest.last_lists(relid)
     }
 
     /// Runs the next part: the host's control serves it on a thread, and the guest's on this one.

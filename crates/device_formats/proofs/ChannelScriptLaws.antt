@@ -1,6 +1,7 @@
 -- What the end that asks has to ask, one by one.
-use Rattle.std.proofs.Common.{◌≡◌, ℕ, zero, suc, ◌+◌, ◌-◌, ◌<◌, ◌≤◌, true, List, [], ◌∷◌, ◌++◌, length, Option, Some, None, slice_get, length-append, cond, refl, sym, ap, subst, ◌∙◌, arith}
-use Rattle.std.specs.Prelude.{map, is_some}
+use Rattle.std.proofs.Common.{◌≡◌, ℕ, zero, suc, ◌+◌, ◌-◌, ◌<◌, ◌≤◌, ◌*◌, Bool, true, false, List, [], ◌∷◌, ◌++◌, length, Option, Some, None, slice_get, length-append, cond, refl, sym, ap, subst, ◌∙◌, arith}
+use Rattle.std.specs.Prelude.{map, is_some, not, ◌==◌}
+use Rattle.std.proofs.lemmas.Bool.Decides.{nat_tests}
 use Rattle.std.specs.List.{AllByRecursion}
 use Rattle.std.proofs.lemmas.List.{length-map}
 use Rattle.page_kept.specs.declared.item.Item.{Item}
@@ -18,50 +19,66 @@ use Rattle.channel_model.specs.Lift.{mapped}
 use Rattle.device_formats.specs.Codecs.{Codec, result_in}
 use Rattle.device_formats.specs.Services.{service_fixed, service_codec}
 use Rattle.device_formats.specs.PageDisks.{page_codec}
-use Rattle.device_formats.specs.Nets.{rndis_packet, net_done, init_done, net_said}
+use Rattle.device_formats.specs.Nets.{receive_step, send_step}
+use Rattle.device_formats.specs.PageNets.{net_said}
+use Rattle.device_formats.specs.declared.buffer_lists.BufferLists.{BufferLists}
 use Rattle.device_formats.specs.Kinds.{net_request, services, disks, nets}
-use Rattle.device_formats.specs.Wants.{startup, start_answered, step_at, CanBe, IsNetAsk, IsAskable}
+use Rattle.device_formats.specs.Wants.{startup, net_step, start_answered, step_at, CanBe, IsNetAsk, IsAskable}
 use Rattle.device_formats.specs.Formats.{asked_as, said_on, has_answer_on, format_of}
 use Rattle.device_formats.specs.ChannelScript.{ChannelScript, asks_of, CanAsk}
 use Rattle.device_formats.proofs.FormatLaws.{keeps, step_read, asked_is, script_waits, start_answers}
 
 -- the start-up is part of what is asked
-pub starts_within : (kind : DeviceKind) (sub subs : ℕ) (asks : List Want) → length (startup kind sub subs) ≤ length (startup kind sub subs ++ asks)
-starts_within kind sub subs asks = omega (arith, length-append (startup kind sub subs) asks)
+pub starts_within : (kind : DeviceKind) (sub subs : ℕ) (lists : BufferLists) (asks : List Want) → length (startup kind sub subs lists) ≤ length (startup kind sub subs lists ++ asks)
+starts_within kind sub subs lists asks = omega (arith, length-append (startup kind sub subs lists) asks)
 
 -- a start-up has few steps
-pub few_starts : (kind : DeviceKind) (sub subs : ℕ) → length (startup kind sub subs) ≤ 5
-few_starts Beat zero subs = omega arith
-few_starts Down zero subs = omega arith
-few_starts Disk zero zero = omega arith
-few_starts Disk zero (suc n) = omega arith
-few_starts Net zero subs = omega arith
-few_starts Beat (suc s) subs = omega arith
-few_starts Down (suc s) subs = omega arith
-few_starts Disk (suc s) subs = omega arith
-few_starts Net (suc s) subs = omega arith
+pub few_starts : (kind : DeviceKind) (sub subs : ℕ) (lists : BufferLists) → length (startup kind sub subs lists) ≤ 5
+few_starts Beat zero subs lists = omega arith
+few_starts Down zero subs lists = omega arith
+few_starts Disk zero zero lists = omega arith
+few_starts Disk zero (suc n) lists = omega arith
+few_starts Net zero subs lists = omega arith
+few_starts Beat (suc s) subs lists = omega arith
+few_starts Down (suc s) subs lists = omega arith
+few_starts Disk (suc s) subs lists = omega arith
+few_starts Net (suc s) subs lists = omega arith
+
+-- and as many whatever page lists it tells
+pub same_starts : (kind : DeviceKind) (sub subs : ℕ) (lists others : BufferLists) → length (startup kind sub subs lists) ≡ length (startup kind sub subs others)
+same_starts Beat zero subs lists others = refl
+same_starts Down zero subs lists others = refl
+same_starts Disk zero zero lists others = refl
+same_starts Disk zero (suc n) lists others = refl
+same_starts Net zero subs lists others = refl
+same_starts Beat (suc s) subs lists others = refl
+same_starts Down (suc s) subs lists others = refl
+same_starts Disk (suc s) subs lists others = refl
+same_starts Net (suc s) subs lists others = refl
 
 -- what stands at a place of the start-up
-start_at : (kind : DeviceKind) (sub subs : ℕ) (asks : List Want) (k : ℕ) (a : Want) → k < length (startup kind sub subs) → slice_get (startup kind sub subs ++ asks) k ≡ Some a → a ≡ Starts (step_at subs k)
-start_at Beat zero subs asks zero a lt h = cc
-start_at Beat zero subs asks (suc k) a lt h = absurd (omega arith)
-start_at Down zero subs asks zero a lt h = cc
-start_at Down zero subs asks (suc k) a lt h = absurd (omega arith)
-start_at Disk zero subs asks zero a lt h = cc
-start_at Disk zero subs asks (suc zero) a lt h = cc
-start_at Disk zero subs asks (suc (suc zero)) a lt h = cc
-start_at Disk zero subs asks (suc (suc (suc zero))) a lt h = cc
-start_at Disk zero zero asks (suc (suc (suc (suc k)))) a lt h = absurd (omega arith)
-start_at Disk zero (suc n) asks (suc (suc (suc (suc zero)))) a lt h = let is : Some (Starts (3 + suc n)) ≡ Some a = h in let e : Starts (3 + suc n) ≡ a = cc in sym e
-start_at Disk zero (suc n) asks (suc (suc (suc (suc (suc k))))) a lt h = absurd (omega arith)
-start_at Net zero subs asks zero a lt h = cc
-start_at Net zero subs asks (suc zero) a lt h = cc
-start_at Net zero subs asks (suc (suc zero)) a lt h = cc
-start_at Net zero subs asks (suc (suc (suc k))) a lt h = absurd (omega arith)
-start_at Beat (suc s) subs asks k a lt h = absurd (omega arith)
-start_at Down (suc s) subs asks k a lt h = absurd (omega arith)
-start_at Disk (suc s) subs asks k a lt h = absurd (omega arith)
-start_at Net (suc s) subs asks k a lt h = absurd (omega arith)
+start_at : (kind : DeviceKind) (sub subs : ℕ) (lists : BufferLists) (asks : List Want) (k : ℕ) (a : Want) → k < length (startup kind sub subs lists) → slice_get (startup kind sub subs lists ++ asks) k ≡ Some a → a ≡ Starts (step_at kind subs lists k)
+start_at Beat zero subs lists asks zero a lt h = cc
+start_at Beat zero subs lists asks (suc k) a lt h = absurd (omega arith)
+start_at Down zero subs lists asks zero a lt h = cc
+start_at Down zero subs lists asks (suc k) a lt h = absurd (omega arith)
+start_at Disk zero subs lists asks zero a lt h = cc
+start_at Disk zero subs lists asks (suc zero) a lt h = cc
+start_at Disk zero subs lists asks (suc (suc zero)) a lt h = cc
+start_at Disk zero subs lists asks (suc (suc (suc zero))) a lt h = cc
+start_at Disk zero zero lists asks (suc (suc (suc (suc k)))) a lt h = absurd (omega arith)
+start_at Disk zero (suc n) lists asks (suc (suc (suc (suc zero)))) a lt h = let is : Some (Starts (3 + suc n)) ≡ Some a = h in let e : Starts (3 + suc n) ≡ a = cc in sym e
+start_at Disk zero (suc n) lists asks (suc (suc (suc (suc (suc k))))) a lt h = absurd (omega arith)
+start_at Net zero subs lists asks zero a lt h = cc
+start_at Net zero subs lists asks (suc zero) a lt h = cc
+start_at Net zero subs lists asks (suc (suc zero)) a lt h = let is : Some (Starts (receive_step lists.receive)) ≡ Some a = h in let e : Starts (receive_step lists.receive) ≡ a = cc in sym e
+start_at Net zero subs lists asks (suc (suc (suc zero))) a lt h = let is : Some (Starts (send_step lists.send)) ≡ Some a = h in let e : Starts (send_step lists.send) ≡ a = cc in sym e
+start_at Net zero subs lists asks (suc (suc (suc (suc zero)))) a lt h = cc
+start_at Net zero subs lists asks (suc (suc (suc (suc (suc k))))) a lt h = absurd (omega arith)
+start_at Beat (suc s) subs lists asks k a lt h = absurd (omega arith)
+start_at Down (suc s) subs lists asks k a lt h = absurd (omega arith)
+start_at Disk (suc s) subs lists asks k a lt h = absurd (omega arith)
+start_at Net (suc s) subs lists asks k a lt h = absurd (omega arith)
 
 behind : (xs ys : List Want) (j : ℕ) → slice_get (xs ++ ys) (length xs + j) ≡ slice_get ys j
 behind [] ys j = let e : length {A = Want} [] + j ≡ j = omega arith in ap (slice_get ys) e
@@ -90,7 +107,7 @@ says_so x request reply a before p ask h = rw (some_mapped request (x.read (x.en
 net_says : (ask : Ask) (before : Option Item) (i : Item) → CanBe IsNetAsk (net_request ask) → (format_of Net).result (Script ask) before i ≡ said_on Net before i
 net_says (AskIc q) before i can = absurd can
 net_says (AskDisk q) before i can = absurd can
-net_says (AskNet m) before i can = ap (λ t. mapped nets.reply (cond t (net_said (mapped packet_of before) i.packet) None)) can
+net_says (AskNet m) before i can = ap (λ t. mapped nets.reply (cond t (net_said before i) None)) can
 
 answer_says : (kind : DeviceKind) (ask : Ask) (before : Option Item) (i : Item) → IsAskable kind ask → (format_of kind).result (Script ask) before i ≡ said_on kind before i
 answer_says Beat ask before i can = says_so (service_codec Beat) services.request services.reply (services.ask (Script ask)) (mapped packet_of before) i.packet (asked_as 0 ask) (asked_is Beat 0 ask can)
@@ -99,40 +116,40 @@ answer_says Disk ask before i can = says_so page_codec disks.request disks.reply
 answer_says Net ask before i can = net_says ask before i can
 
 module _ (t : ChannelScript) (can : CanAsk t.kind t.asks) where
-  pub length-asks : length (asks_of t) ≡ length (startup t.kind t.sub t.subs) + length t.asks
-  length-asks = omega (arith, length-append (startup t.kind t.sub t.subs) (map Script t.asks), length-map t.asks Script)
+  pub length-asks : length (asks_of t) ≡ length (startup t.kind t.sub t.subs t.lists) + length t.asks
+  length-asks = omega (arith, length-append (startup t.kind t.sub t.subs t.lists) (map Script t.asks), length-map t.asks Script)
 
   -- a place of the start-up, or one of the script
-  pub at_start : (k : ℕ) (a : Want) → k < length (startup t.kind t.sub t.subs) → slice_get (asks_of t) k ≡ Some a → a ≡ Starts (step_at t.subs k)
-  at_start k a lt h = start_at t.kind t.sub t.subs (map Script t.asks) k a lt h
+  pub at_start : (k : ℕ) (a : Want) → k < length (startup t.kind t.sub t.subs t.lists) → slice_get (asks_of t) k ≡ Some a → a ≡ Starts (step_at t.kind t.subs t.lists k)
+  at_start k a lt h = start_at t.kind t.sub t.subs t.lists (map Script t.asks) k a lt h
 
-  pub at_script : (k : ℕ) (a : Want) → length (startup t.kind t.sub t.subs) ≤ k → slice_get (asks_of t) k ≡ Some a → (ask : Ask) × (slice_get t.asks (k - length (startup t.kind t.sub t.subs)) ≡ Some ask) × (a ≡ Script ask)
+  pub at_script : (k : ℕ) (a : Want) → length (startup t.kind t.sub t.subs t.lists) ≤ k → slice_get (asks_of t) k ≡ Some a → (ask : Ask) × (slice_get t.asks (k - length (startup t.kind t.sub t.subs t.lists)) ≡ Some ask) × (a ≡ Script ask)
   at_script k a le h =
-      let j = k - length (startup t.kind t.sub t.subs) in
-      let place : length (startup t.kind t.sub t.subs) + j ≡ k = omega arith in
-      found t.asks j a (sym (behind (startup t.kind t.sub t.subs) (map Script t.asks) j) ∙ (ap (slice_get (asks_of t)) place ∙ h))
+      let j = k - length (startup t.kind t.sub t.subs t.lists) in
+      let place : length (startup t.kind t.sub t.subs t.lists) + j ≡ k = omega arith in
+      found t.asks j a (sym (behind (startup t.kind t.sub t.subs t.lists) (map Script t.asks) j) ∙ (ap (slice_get (asks_of t)) place ∙ h))
 
   pub can_at : (j : ℕ) (ask : Ask) → slice_get t.asks j ≡ Some ask → IsAskable t.kind ask
   can_at j ask h = all_at (IsAskable t.kind) t.asks j ask can.can h
 
   -- an answer says nothing to a request of the start-up
-  pub start_says_nothing : (k : ℕ) (a : Want) (before : Option Item) (p : Item) → k < length (startup t.kind t.sub t.subs) → slice_get (asks_of t) k ≡ Some a → (format_of t.kind).result a before p ≡ None
+  pub start_says_nothing : (k : ℕ) (a : Want) (before : Option Item) (p : Item) → k < length (startup t.kind t.sub t.subs t.lists) → slice_get (asks_of t) k ≡ Some a → (format_of t.kind).result a before p ≡ None
   start_says_nothing k a before p lt h =
-      ap (λ x. (format_of t.kind).result x before p) (at_start k a lt h) ∙ (keeps t.kind).no_result 0 (Starts (step_at t.subs k)) before p (step_read t.kind 0 (step_at t.subs k))
+      ap (λ x. (format_of t.kind).result x before p) (at_start k a lt h) ∙ (keeps t.kind).no_result 0 (Starts (step_at t.kind t.subs t.lists k)) before p (step_read t.kind 0 (step_at t.kind t.subs t.lists k))
 
   -- to one of the script it says what the answer says
-  pub script_says : (k : ℕ) (a : Want) (before : Option Item) (p : Item) → length (startup t.kind t.sub t.subs) ≤ k → slice_get (asks_of t) k ≡ Some a → (format_of t.kind).result a before p ≡ said_on t.kind before p
+  pub script_says : (k : ℕ) (a : Want) (before : Option Item) (p : Item) → length (startup t.kind t.sub t.subs t.lists) ≤ k → slice_get (asks_of t) k ≡ Some a → (format_of t.kind).result a before p ≡ said_on t.kind before p
   script_says k a before p le h =
       let at = at_script k a le h in
-      ap (λ x. (format_of t.kind).result x before p) at.2 ∙ answer_says t.kind at.0 before p (can_at (k - length (startup t.kind t.sub t.subs)) at.0 at.1)
+      ap (λ x. (format_of t.kind).result x before p) at.2 ∙ answer_says t.kind at.0 before p (can_at (k - length (startup t.kind t.sub t.subs t.lists)) at.0 at.1)
 
   -- a step of the start-up has an answer or has none, and each request of the script has one
-  pub start_waits_at : (k : ℕ) (a : Want) → k < length (startup t.kind t.sub t.subs) → slice_get (asks_of t) k ≡ Some a → has_answer_on t.kind a ≡ start_answered t.kind (step_at t.subs k)
-  start_waits_at k a lt h = ap (has_answer_on t.kind) (at_start k a lt h) ∙ start_answers t.kind (step_at t.subs k)
+  pub start_waits_at : (k : ℕ) (a : Want) → k < length (startup t.kind t.sub t.subs t.lists) → slice_get (asks_of t) k ≡ Some a → has_answer_on t.kind a ≡ start_answered t.kind (step_at t.kind t.subs t.lists k)
+  start_waits_at k a lt h = ap (has_answer_on t.kind) (at_start k a lt h) ∙ start_answers t.kind (step_at t.kind t.subs t.lists k)
 
-  pub script_waits_at : (k : ℕ) (a : Want) → length (startup t.kind t.sub t.subs) ≤ k → slice_get (asks_of t) k ≡ Some a → has_answer_on t.kind a ≡ true
+  pub script_waits_at : (k : ℕ) (a : Want) → length (startup t.kind t.sub t.subs t.lists) ≤ k → slice_get (asks_of t) k ≡ Some a → has_answer_on t.kind a ≡ true
   script_waits_at k a le h =
-      let at = at_script k a le h in ap (has_answer_on t.kind) at.2 ∙ script_waits t.kind at.0 (can_at (k - length (startup t.kind t.sub t.subs)) at.0 at.1)
+      let at = at_script k a le h in ap (has_answer_on t.kind) at.2 ∙ script_waits t.kind at.0 (can_at (k - length (startup t.kind t.sub t.subs t.lists)) at.0 at.1)
 
 -- packets have words
 
@@ -140,14 +157,17 @@ pub listed_service : (kind : DeviceKind) (p : List ℕ) → listed_packet (servi
 unfolding service_fixed
 listed_service kind p = refl
 
-pub listed_rndis : (id : ℕ) (m : Rndis) → listed_packet (rndis_packet id m) ≡ rndis_packet id m ∷ []
-unfolding rndis_packet
-listed_rndis id m = refl
+-- a network's start-up has five steps
+pub net_starts : (sub subs : ℕ) (lists : BufferLists) (k : ℕ) → k < length (startup Net sub subs lists) → k < 5
+net_starts zero subs lists k lt = lt
+net_starts (suc s) subs lists k lt = absurd (omega (arith, lt))
 
-pub listed_net_done : (id status : ℕ) → listed_packet (net_done id status) ≡ net_done id status ∷ []
-unfolding net_done
-listed_net_done id status = refl
+-- of a network's steps the second one alone has no answer
+step_if : (a b c : Bool) (r s k : ℕ) → (k == 2) ≡ a → (k == 3) ≡ b → (k == 4) ≡ c → (cond a (3 + 2 * r) (cond b (4 + 2 * s) (cond c 2 k)) == 1) ≡ (k == 1)
+step_if true b c r s k two three four = let is : k ≡ 2 = grind (arith, nat_tests, two) in grind (arith, nat_tests, is)
+step_if false true c r s k two three four = let is : k ≡ 3 = grind (arith, nat_tests, three) in grind (arith, nat_tests, is)
+step_if false false true r s k two three four = let is : k ≡ 4 = grind (arith, nat_tests, four) in grind (arith, nat_tests, is)
+step_if false false false r s k two three four = refl
 
-pub listed_init_done : (p : List ℕ) → listed_packet (init_done p) ≡ init_done p ∷ []
-unfolding init_done
-listed_init_done p = refl
+pub net_answered : (lists : BufferLists) (k : ℕ) → not (net_step lists k == 1) ≡ not (k == 1)
+net_answered lists k = ap not (step_if (k == 2) (k == 3) (k == 4) lists.receive lists.send k refl refl refl)

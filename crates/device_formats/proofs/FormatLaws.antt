@@ -34,14 +34,17 @@ use Rattle.device_formats.specs.Packets.{is_inband}
 use Rattle.device_formats.specs.Codecs.{WantOf, Step, Request, Codec, format_by}
 use Rattle.device_formats.specs.Services.{service_read, service_fixed, service_answer, service_fits, service_encode, service_codec}
 use Rattle.device_formats.specs.PageDisks.{page_codec, IsPageAsk}
-use Rattle.device_formats.specs.Nets.{net_format}
+use Rattle.device_formats.specs.PageNets.{net_format}
+use Rattle.device_formats.specs.declared.buffer_lists.BufferLists.{BufferLists}
 use Rattle.device_formats.specs.Kinds.{ic_request, disk_request, net_request, ic_reply, services, disks, nets}
+use Rattle.device_formats.specs.Nets.{receive_step, send_step}
 use Rattle.device_formats.specs.Wants.{startup, start_answered, CanBe, IsBeatAsk, IsDownAsk, IsNetAsk, IsAskable}
 use Rattle.device_formats.specs.Formats.{besides_on, asked_as, encode_on, waits_on, read_on, fits_on, answer_on, has_answer_on, format_of}
 use Rattle.device_formats.proofs.DiskLaws.{by_test}
 use Rattle.device_formats.proofs.PageDiskLaws.{start_waits as disk_start_waits, start_read as disk_start_read, ask_read as disk_ask_read}
 use Rattle.device_formats.proofs.DoneLaws.{sized_fits}
-use Rattle.device_formats.proofs.NetLaws.{net_keeps, asked_read, step_read as net_step_read, station_fits}
+use Rattle.device_formats.proofs.NetLaws.{station_fits}
+use Rattle.device_formats.proofs.PageNetLaws.{net_keeps, asked_read, step_read as net_step_read}
 use Rattle.device_formats.proofs.ServiceLaws.{served_answers, ask_read, start_waits, start_read, reply_fits}
 use Rattle.device_formats.proofs.KindLaws.{service_keeps, service_silent}
 use Rattle.device_formats.proofs.PageFormatLaws.{page_keeps, page_silent}
@@ -51,7 +54,7 @@ pub keeps : (kind : DeviceKind) → Keeps (format_of kind)
 keeps Beat = keeps_in_packets (lift (format_by (service_codec Beat)) services) (lifts (format_by (service_codec Beat)) services among_services (service_keeps Beat))
 keeps Down = keeps_in_packets (lift (format_by (service_codec Down)) services) (lifts (format_by (service_codec Down)) services among_services (service_keeps Down))
 keeps Disk = lifts (format_by page_codec) disks among_disks page_keeps
-keeps Net = keeps_in_packets (lift net_format nets) (lifts net_format nets among_nets net_keeps)
+keeps Net = lifts net_format nets among_nets net_keeps
 
 -- but for a network's there are no messages
 pub no_messages : (kind : DeviceKind) → besides_on kind ≡ false → HasNoMessages (format_of kind)
@@ -97,16 +100,17 @@ step_read Disk id k = ap (mapped AskDisk) (disk_start_read id k)
 step_read Net id k = ap (mapped AskNet) (net_step_read id k)
 
 -- what goes back for the start-up is fixed
-pub start_is_fixed : (kind : DeviceKind) (sub subs : ℕ) → AllFixed (format_of kind) (startup kind sub subs)
-start_is_fixed Beat zero subs = (λ id. step_read Beat id 0, tt)
-start_is_fixed Down zero subs = (λ id. step_read Down id 0, tt)
-start_is_fixed Disk zero zero = (λ id. step_read Disk id 0, (λ id. step_read Disk id 1, (λ id. step_read Disk id 2, (λ id. step_read Disk id 3, tt))))
-start_is_fixed Disk zero (suc n) = (λ id. step_read Disk id 0, (λ id. step_read Disk id 1, (λ id. step_read Disk id 2, (λ id. step_read Disk id 3, (λ id. step_read Disk id (3 + suc n), tt)))))
-start_is_fixed Net zero subs = (λ id. step_read Net id 0, (λ id. step_read Net id 1, (λ id. step_read Net id 2, tt)))
-start_is_fixed Beat (suc s) subs = tt
-start_is_fixed Down (suc s) subs = tt
-start_is_fixed Disk (suc s) subs = tt
-start_is_fixed Net (suc s) subs = tt
+pub start_is_fixed : (kind : DeviceKind) (sub subs : ℕ) (lists : BufferLists) → AllFixed (format_of kind) (startup kind sub subs lists)
+start_is_fixed Beat zero subs lists = (λ id. step_read Beat id 0, tt)
+start_is_fixed Down zero subs lists = (λ id. step_read Down id 0, tt)
+start_is_fixed Disk zero zero lists = (λ id. step_read Disk id 0, (λ id. step_read Disk id 1, (λ id. step_read Disk id 2, (λ id. step_read Disk id 3, tt))))
+start_is_fixed Disk zero (suc n) lists = (λ id. step_read Disk id 0, (λ id. step_read Disk id 1, (λ id. step_read Disk id 2, (λ id. step_read Disk id 3, (λ id. step_read Disk id (3 + suc n), tt)))))
+start_is_fixed Net zero subs lists =
+    (λ id. step_read Net id 0, (λ id. step_read Net id 1, (λ id. step_read Net id (receive_step lists.receive), (λ id. step_read Net id (send_step lists.send), (λ id. step_read Net id 2, tt)))))
+start_is_fixed Beat (suc s) subs lists = tt
+start_is_fixed Down (suc s) subs lists = tt
+start_is_fixed Disk (suc s) subs lists = tt
+start_is_fixed Net (suc s) subs lists = tt
 
 -- a request of this kind that can be asked is what is read
 asked_so : {P Q R : Type 0} (x : Codec P (WantOf Q) Q R) (request : Q → Ask) (Can : Q → Type 0) (id : ℕ) → ((q : Q) → Can q → x.read (x.encode id (Request q)) ≡ Some q) → (ask : Ask) (o : Option Q) → ((q : Q) → o ≡ Some q → request q ≡ ask)
@@ -164,7 +168,8 @@ start_answers Down k = start_waits 0
 start_answers Disk k = disk_start_waits 0 k
 start_answers Net zero = refl
 start_answers Net (suc zero) = refl
-start_answers Net (suc (suc k)) = let other : (suc (suc k) == 1) ≡ false = grind (arith, nat_tests) in sym (ap not other)
+start_answers Net (suc (suc zero)) = refl
+start_answers Net (suc (suc (suc k))) = let other : (suc (suc (suc k)) == 1) ≡ false = grind (arith, nat_tests) in sym (ap not other)
 
 -- each reply of a service, of a disk, or of an adapter fits
 pub beat_fits : (q : IcAsk) (r : IcAnswer) → r ≡ reply_of Beat q → fits_on Beat (AskIc q) (ReplyIc r) ≡ true

@@ -11,7 +11,11 @@ pub mod SpanLaws
 pub mod PageDiskLaws
 pub mod PageDoneLaws
 pub mod SaidLaws
+pub mod TransferLaws
+pub mod PageNetLaws
+pub mod NetPageLaws
 pub mod AmongLaws
 pub mod PageFormatLaws
 pub mod FormatLaws
 pub mod ChannelScriptLaws
+pub mod StartLaws

@@ -18,7 +18,7 @@ kind_kept kind len8 flags small = omega arith
 pub kind_plain : (kind id flags : ℕ) (bs : List ℕ) → kind < 2 ^ 16 → kind_of (plain_packet kind id flags bs) ≡ kind
 kind_plain kind id flags bs small = kind_kept kind (2 + words_for (length bs)) flags small
 
-payload_kept : (kind id flags : ℕ) (bs : List ℕ) → kind < 2 ^ 16 → payload_of (plain_packet kind id flags bs) ≡ words_of bs
+pub payload_kept : (kind id flags : ℕ) (bs : List ℕ) → kind < 2 ^ 16 → payload_of (plain_packet kind id flags bs) ≡ words_of bs
 payload_kept kind id flags bs small = ap (λ j. drop j (plain_packet kind id flags bs)) (offset_two kind (2 + words_for (length bs)) flags small)
 
 pub length-plain : (kind id flags : ℕ) (bs : List ℕ) → length (plain_packet kind id flags bs) ≡ 2 + words_for (length bs)

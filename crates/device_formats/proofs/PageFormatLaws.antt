@@ -41,6 +41,7 @@ use Rattle.device_formats.proofs.CodecLaws.{Sound, codec_keeps, codec_silent}
 use Rattle.device_formats.proofs.DiskLaws.{by_test, start_is_formed, start_allowed}
 use Rattle.device_formats.proofs.DoneLaws.{back_fits}
 use Rattle.device_formats.proofs.AmongLaws.{Replied, replied_so}
+use Rattle.device_formats.proofs.NetPageLaws.{net_pages}
 use Rattle.device_formats.proofs.SpanLaws.{direct_lends_any, sent_lends}
 use Rattle.device_formats.proofs.PageDiskLaws.{sent_kind, sent_holds, start_waits, start_read, Fits, fits_from, ask_formed, ask_none, ask_some, waits_always, read_alike, fits_can, asked_long}
 use Rattle.device_formats.proofs.PageDoneLaws.{page_asks, done_kind, reply_read}
@@ -200,7 +201,7 @@ pub pages_kept : (kind : DeviceKind) → lends_on kind ≡ true → KeepsPages (
 pages_kept Beat lends = cc
 pages_kept Down lends = cc
 pages_kept Disk lends = disk_pages
-pages_kept Net lends = cc
+pages_kept Net lends = net_pages
 
 -- what is asked, and how it is read
 

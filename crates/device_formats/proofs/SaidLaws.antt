@@ -1,6 +1,6 @@
 -- Items of a disk's channel are read as they were meant, whatever stood in their pages before.
 use Rattle.std.proofs.Common.{◌≡◌, ℕ, zero, suc, ◌+◌, ◌-◌, ◌*◌, ◌^◌, ◌<◌, ◌≤◌, ◌==◌, ◌⊎◌, ⊎_elim, inl, inr, Bool, true, false, cond, ◌&&◌, List, [], ◌∷◌, ◌++◌, length, take, drop, replicate, slice_range, Option, Some, None, Ok, Err, refl, sym, ap, subst, ◌∙◌, lit<, lit≤, arith, length-append}
-use Rattle.std.specs.Prelude.{nat_le, nat_lt, not}
+use Rattle.std.specs.Prelude.{nat_le, nat_lt, not, is_none}
 use Rattle.std.proofs.lemmas.Bool.Decides.{nat_tests}
 use Rattle.std.proofs.lemmas.List.{length-replicate, drop_at, drop-drop, length-take-le}
 use Rattle.wire_table.specs.Little.{bytes_of, number_of}
@@ -18,7 +18,8 @@ use Rattle.scsi_disk.specs.declared.request.DiskRequest.{DiskRequest}
 use Rattle.scsi_disk.specs.declared.reply.DiskReply.{DiskReply}
 use Rattle.scsi_disk.specs.declared.reply.DiskReply.TheVariants.{Good, Check}
 use Rattle.stor_proto.specs.Fields.{number_at, with_number, with_bytes}
-use Rattle.stor_proto.specs.Packets.{IsAllowed}
+use Rattle.stor_proto.specs.Packets.{IsAllowed, fault_in, vstor_fault, vstor_in}
+use Rattle.stor_proto.specs.declared.fault.VstorFault.TheVariants.{Short}
 use Rattle.stor_proto.specs.Operations.{operation_of}
 use Rattle.stor_proto.specs.Opening.{is_version, status_of, with_properties, rest_of, answer_of}
 use Rattle.stor_proto.specs.Srbs.{cdb_in, data_for, data_in, names_disk, request_of, moved_by, sense_of, reply_of, stop_of, ask_of, cdb_length}
@@ -32,7 +33,7 @@ use Rattle.device_formats.specs.PageDisks.{page_waits, is_empty, lacks_page, wit
 use Rattle.device_formats.proofs.ByteLaws.{zero_bytes, with_number_bytes}
 use Rattle.wire_table.proofs.RowLaws.{IsBytes}
 use Rattle.device_formats.proofs.PacketLaws.{right}
-use Rattle.device_formats.specs.Packets.{is_inband}
+use Rattle.device_formats.specs.Packets.{is_inband, content_of}
 use Rattle.device_formats.specs.PageDisks.{is_direct}
 use Rattle.device_formats.proofs.VstorLaws.{Formed, number_put}
 use Rattle.device_formats.proofs.DiskLaws.{by_test}
@@ -43,7 +44,7 @@ use Rattle.device_formats.proofs.PageDoneLaws.{page_asks, waits_formed, Complete
 
 -- by type
 
-said_done : (p ws : List ℕ) → kind_of p ≡ 11 → words_said p ws ≡ take (words_for (came_in p)) ws
+pub said_done : (p ws : List ℕ) → kind_of p ≡ 11 → words_said p ws ≡ take (words_for (came_in p)) ws
 said_done p ws kind = ap (λ k. cond (k == 11) (take (words_for (came_in p)) ws) (cond ((k == 9) && reads_into p) (replicate (length ws) 0) ws)) kind
 
 said_direct : (p ws : List ℕ) → kind_of p ≡ 9 → words_said p ws ≡ cond (reads_into p) (replicate (length ws) 0) ws
@@ -173,7 +174,7 @@ reply_came v came q (Check key asc ascq) len is few h = none_came (reply_of v (C
 
 -- items
 
-item_is : (j : Item) (p ws : List ℕ) → j.packet ≡ p → words_said p j.words ≡ ws → said_item j ≡ item_of p ws
+pub item_is : (j : Item) (p ws : List ℕ) → j.packet ≡ p → words_said p j.words ≡ ws → said_item j ≡ item_of p ws
 item_is j p ws is e = ap (λ x. item_of x (words_said x j.words)) is ∙ ap (item_of p) e
 
 came_is : (p : List ℕ) (w : Vstor) → Completes p w → came_in p ≡ came_with w
@@ -447,3 +448,25 @@ read_said i = (is_read_so i).read
 -- what a completion says hangs on its words as far as bytes came
 pub result_words : (p ws : List ℕ) → kind_of p ≡ 11 → words_said p ws ≡ take (words_for (came_in p)) ws
 result_words = said_done
+
+-- and so many of a completion whose bytes are fewer than those of a storage packet: none
+no_vstor : (p : List ℕ) → length (content_of p) < 64 → has_vstor p ≡ false
+unfolding has_vstor vstor_fault
+no_vstor p few =
+    let short : nat_lt (length (content_of p)) 64 ≡ true = grind (arith, nat_tests, few) in
+    ap (λ b. is_none (cond b (Some (Short (length (content_of p)) 64)) (fault_in (vstor_in (content_of p))))) short
+
+short_came : (p : List ℕ) → length (content_of p) < 64 → came_in p ≡ 0
+unfolding came_in
+short_came p few = ap (λ b. cond b (came_with (vstor_of p)) 0) (no_vstor p few)
+
+pub said_short : (j : Item) (p : List ℕ) → j.packet ≡ p → kind_of p ≡ 11 → length (content_of p) < 64 → said_item j ≡ item_of p []
+said_short j p is kind few = item_is j p [] is (said_done p j.words kind ∙ ap (λ n. take (words_for n) j.words) (short_came p few))
+
+-- in-band packets and transfers are read as they are
+pub said_plain : (j : Item) (p ws : List ℕ) (k : ℕ) → j.packet ≡ p → j.words ≡ ws → kind_of p ≡ k → (k == 11) ≡ false → (k == 9) ≡ false → said_item j ≡ item_of p ws
+said_plain j p ws k is words kind other direct =
+    item_is j p ws is
+    (ap (λ n. cond (n == 11) (take (words_for (came_in p)) j.words) (cond ((n == 9) && reads_into p) (replicate (length j.words) 0) j.words)) kind
+    ∙ (ap (λ b. cond b (take (words_for (came_in p)) j.words) (cond ((k == 9) && reads_into p) (replicate (length j.words) 0) j.words)) other
+    ∙ (ap (λ b. cond (b && reads_into p) (replicate (length j.words) 0) j.words) direct ∙ words)))

@@ -43,14 +43,14 @@ one_span : (n page : ℕ) (ws : List ℕ) → 1 ≤ n → n ≤ 4096 → spans_w
 unfolding spans_words
 one_span n page ws some few = omega (arith, some, few)
 
-loan_true : (a b c d : Bool) (page bytes : ℕ) → a ≡ true → b ≡ true → c ≡ true → d ≡ true → loan (a && (b && (c && d))) page bytes ≡ Some (record { page = page; bytes = bytes })
+pub loan_true : (a b c d : Bool) (page bytes : ℕ) → a ≡ true → b ≡ true → c ≡ true → d ≡ true → loan (a && (b && (c && d))) page bytes ≡ Some (record { page = page; bytes = bytes })
 loan_true true true true true page bytes a b c d = refl
 loan_true true true true false page bytes a b c d = cc
 loan_true true true false d page bytes a b c e = cc
 loan_true true false c d page bytes a b e f = cc
 loan_true false b c d page bytes a e f g = cc
 
-lent_ended : (kind off stop : ℕ) (p : List ℕ) (l : Option Lent) → kind_of p ≡ kind → offset8_of (slice_index p 0) ≡ off → ranges_end kind p ≡ stop → stop ≤ off → lent_by kind p ≡ l → lent_of p ≡ l
+pub lent_ended : (kind off stop : ℕ) (p : List ℕ) (l : Option Lent) → kind_of p ≡ kind → offset8_of (slice_index p 0) ≡ off → ranges_end kind p ≡ stop → stop ≤ off → lent_by kind p ≡ l → lent_of p ≡ l
 lent_ended kind off stop p l k o e le is =
     let holds : nat_le stop off ≡ true = grind (arith, nat_tests, le) in
     ap (λ x. cond (nat_le (ranges_end x p) (offset8_of (slice_index p 0))) (lent_by x p) None) k
@@ -109,12 +109,12 @@ first_word : (v : Vstor) (more : List ℕ) → v.operation < 256 ^ 4 → number_
 unfolding vstor_bytes bytes_of number_of
 first_word v more fits = omega (arith, fits)
 
-first_of : (n : ℕ) (bs : List ℕ) → 1 ≤ n → slice_index (words_from n bs) 0 ≡ number_of (take 8 bs)
+pub first_of : (n : ℕ) (bs : List ℕ) → 1 ≤ n → slice_index (words_from n bs) 0 ≡ number_of (take 8 bs)
 unfolding words_from
 first_of zero bs some = absurd (omega (arith, some))
 first_of (suc n) bs some = refl
 
-loan_not : (a b c : Bool) (page bytes : ℕ) → b ≡ false → loan (a && (b && c)) page bytes ≡ None
+pub loan_not : (a b c : Bool) (page bytes : ℕ) → b ≡ false → loan (a && (b && c)) page bytes ≡ None
 loan_not true true c page bytes h = cc
 loan_not true false c page bytes h = refl
 loan_not false b c page bytes h = refl

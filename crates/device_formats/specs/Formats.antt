@@ -1,4 +1,4 @@
--- What the packets of each kind of channel say, with their page words. Those of a disk's channel lend data pages of the channel; any other packet carries all that it says.
+-- What the packets of each kind of channel say, with their page words. Those of a disk's and of a network's channel lend data pages of the channel; any other packet carries all that it says.
 use Rattle.std.specs.Prelude.{ℕ, Bool, true, false, Option}
 use Rattle.page_kept.specs.declared.item.Item.{Item}
 use Rattle.contact.specs.declared.kind.DeviceKind.{DeviceKind}
@@ -8,12 +8,13 @@ use Rattle.script_lines.specs.declared.line.Ask.TheVariants.{Ic as AskIc, Disk a
 use Rattle.bus_script.specs.declared.outcome.Reply.{Reply}
 use Rattle.channel_model.specs.WireFormat.{WireFormat}
 use Rattle.channel_model.specs.Lift.{lift, mapped}
-use Rattle.channel_protocol.specs.Paged.{in_packets, packet_of}
+use Rattle.channel_protocol.specs.Paged.{in_packets}
 use Rattle.device_formats.specs.declared.want.Want.{Want}
 use Rattle.device_formats.specs.Codecs.{format_by}
 use Rattle.device_formats.specs.Services.{service_result, service_codec}
 use Rattle.device_formats.specs.PageDisks.{page_result, page_codec}
-use Rattle.device_formats.specs.Nets.{with_id, request_id_of, net_said, net_format}
+use Rattle.device_formats.specs.Nets.{with_id, request_id_of}
+use Rattle.device_formats.specs.PageNets.{net_said, net_format}
 use Rattle.device_formats.specs.Kinds.{services, disks, nets}
 
 -- what both ends of a channel of this kind say: its own wire format, in the asks and replies of all kinds
@@ -21,14 +22,14 @@ abbrev pub format_of : DeviceKind → WireFormat Item Want Ask Reply
 format_of Beat = in_packets (lift (format_by (service_codec Beat)) services)
 format_of Down = in_packets (lift (format_by (service_codec Down)) services)
 format_of Disk = lift (format_by page_codec) disks
-format_of Net = in_packets (lift net_format nets)
+format_of Net = lift net_format nets
 
 -- whether its packets lend data pages
 abbrev pub lends_on : DeviceKind → Bool
 lends_on Beat = false
 lends_on Down = false
 lends_on Disk = true
-lends_on Net = false
+lends_on Net = true
 
 -- whether messages go back besides the answers: what comes back of a network's adapter
 abbrev pub besides_on : DeviceKind → Bool
@@ -63,7 +64,7 @@ abbrev pub said_on : DeviceKind → Option Item → Item → Option Reply
 said_on Beat before i = mapped services.reply (service_result Beat i.packet)
 said_on Down before i = mapped services.reply (service_result Down i.packet)
 said_on Disk before i = mapped disks.reply (page_result i)
-said_on Net before i = mapped nets.reply (net_said (mapped packet_of before) i.packet)
+said_on Net before i = mapped nets.reply (net_said before i)
 
 -- the device may reply so
 abbrev pub fits_on : DeviceKind → Ask → Reply → Bool

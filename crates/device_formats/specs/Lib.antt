@@ -5,6 +5,7 @@ pub mod Disks
 pub mod Items
 pub mod PageDisks
 pub mod Nets
+pub mod PageNets
 pub mod Kinds
 pub mod Wants
 pub mod Formats

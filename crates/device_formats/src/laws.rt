@@ -1,5 +1,5 @@
 //! Laws of what the packets of each kind of channel say: each function does nothing, and its contract is a law.
-ghost use Rattle.std.specs.Prelude.{◌≡◌, ◌≢◌, ℕ, ◌≤◌, ◌<◌, ◌*◌, true, List, [], Some, None, Ok, length, map, take};
+ghost use Rattle.std.specs.Prelude.{◌≡◌, ◌≢◌, ℕ, ◌≤◌, ◌<◌, ◌*◌, ◌^◌, true, List, [], Some, None, Ok, length, map, take};
 ghost use Rattle.std.specs.List.{AllByRecursion};
 ghost use Rattle.contact.specs.declared.kind.DeviceKind.{DeviceKind};
 ghost use Rattle.contact.specs.declared.kind.DeviceKind.TheVariants.{Disk, Net};
@@ -21,18 +21,20 @@ ghost use Rattle.script_lines.specs.Requests.{IsSent};
 ghost use Rattle.script_lines.specs.declared.line.Ask.{Ask};
 ghost use Rattle.script_lines.specs.declared.line.Ask.TheVariants.{Disk as AskDisk, Net as AskNet};
 ghost use Rattle.bus_script.specs.declared.outcome.Reply.TheVariants.{Net as ReplyNet};
-ghost use Rattle.channel_model.specs.WireFormat.{Keeps};
+ghost use Rattle.channel_model.specs.WireFormat.{Back, Keeps};
 ghost use Rattle.channel_model.specs.Amounts.{MayHaveMessages};
 ghost use Rattle.channel_model.specs.Channel.{AllFixed, AllAsk};
 ghost use Rattle.device_formats.specs.Codecs.{alone, format_by};
 ghost use Rattle.device_formats.specs.Disks.{vstor_of, done_packet, disk_fits, start_vstor};
 ghost use Rattle.device_formats.specs.Items.{came_with, said_item};
 ghost use Rattle.device_formats.specs.PageDisks.{page_waits, lacks_page, page_read, refused_vstor, page_fixed, page_answer, page_codec};
-ghost use Rattle.device_formats.specs.Nets.{net_format};
+ghost use Rattle.device_formats.specs.PageNets.{net_read, net_fixed, net_ack, net_gives, net_format};
+ghost use Rattle.device_formats.specs.Nets.{net_done, carries_rndis};
+ghost use Rattle.device_formats.specs.declared.buffer_lists.BufferLists.{BufferLists};
 ghost use Rattle.device_formats.specs.Services.{service_codec};
 ghost use Rattle.device_formats.specs.declared.want.Want.{Want};
 ghost use Rattle.device_formats.specs.declared.want.Want.TheVariants.{Starts, Script};
-ghost use Rattle.device_formats.specs.Wants.{startup, AsksForSubs, IsAskable};
+ghost use Rattle.device_formats.specs.Wants.{startup, AsksForSubs, IsAskable, TellsLists};
 ghost use Rattle.device_formats.specs.Formats.{asked_as, besides_on, encode_on, read_on, fits_on, format_of, lends_on};
 
 /// The packets of a service's channel keep to the laws of a wire format in the service's own requests and replies, those of a disk's in the disk's, and those of a
@@ -44,8 +46,8 @@ pub fn kinds_keep()
 {}
 
 /// The packets of each kind of channel, in the requests and replies of all kinds, keep to the laws of a wire format: each request that has an answer is answered once, under its id, and the reply is
-/// read in the answer. A disk and a service give no message besides the answer. And those of a disk's channel keep to what data pages ask: a request lends the page of its id or none, and a completion
-/// brings back no more words than came.
+/// read in the answer. A disk and a service give no message besides the answer. And those of a disk's and of a network's channel keep to what data pages ask: a request lends the page of its id or none, so does a message
+/// of the host, whose pages stand behind those of the guest, and a completion brings back no more words than came.
 pub fn keeps_to_its_laws()
     ensures keeps { (kind : DeviceKind) → Keeps (format_of kind) }
     ensures may { (kind : DeviceKind) → MayHaveMessages (format_of kind) (besides_on kind) }
@@ -54,7 +56,12 @@ pub fn keeps_to_its_laws()
 
 /// What goes back for a start-up is fixed: no device is asked.
 pub fn start_up_is_fixed()
-    ensures { (kind : DeviceKind) (sub subs : ℕ) → AllFixed (format_of kind) (startup kind sub subs) }
+    ensures { (kind : DeviceKind) (sub subs : ℕ) (lists : BufferLists) → AllFixed (format_of kind) (startup kind sub subs lists) }
+{}
+
+/// The start-up of a network's channel tells the page lists of its buffers between the NDIS version and the initialize, the receive buffer's first.
+pub fn start_up_tells_the_page_lists()
+    ensures { (lists : BufferLists) → lists.receive < 2 ^ 32 → lists.send < 2 ^ 32 → TellsLists lists }
 {}
 
 /// The start-up of a disk's first channel asks in the end for as many sub-channels as there are, and that many are granted.
@@ -107,4 +114,17 @@ pub fn start_up_is_answered_as_it_is()
     ensures exact { (i : Item) → (vstor_of i.packet).operation ≢ 3 → came_with (answer_of (vstor_of i.packet)) ≡ 0 → (page_read i ≡ None) × (page_fixed i ≡ item_of (done_packet (id_of i.packet) (answer_of (vstor_of i.packet)) []) []) }
     ensures refused { (i : Item) → (vstor_of i.packet).operation ≢ 3 → came_with (answer_of (vstor_of i.packet)) ≢ 0 → (page_read i ≡ None) × (page_fixed i ≡ item_of (done_packet (id_of i.packet) refused_vstor []) []) }
     ensures own { (id k : ℕ) → (format_of Disk).fixed (encode_on Disk id (Starts k)) ≡ Some (alone (item_of (done_packet id (answer_of (start_vstor k)) []) [])) }
+{}
+
+/// A network's packets are read as they are, but that nothing is read of the page words that a completion brings back: what was asked, what comes back, and what completes a message.
+pub fn network_pages_are_read_as_meant()
+    ensures asked { (id : ℕ) (ask : Want) → said_item ((format_of Net).encode id ask) ≡ (format_of Net).encode id ask }
+    ensures given { (i came : Item) (reply : NetReply) → reply.status < 2 ^ 32 → came.packet ≡ (net_gives i reply).answer.packet → said_item came ≡ (net_gives i reply).answer }
+    ensures fixed { (i came : Item) (back : Back Item) → net_fixed i ≡ Some back → came.packet ≡ back.answer.packet → said_item came ≡ back.answer }
+    ensures acked { (i came : Item) → came.packet ≡ (net_ack i).packet → said_item came ≡ net_ack i }
+{}
+
+/// A message of the guest that came without its page isn't served: it is completed with status 2, and asks nothing of the adapter.
+pub fn a_message_without_its_page_isnt_served()
+    ensures { (i : Item) → carries_rndis i.packet ≡ true → i.words ≡ [] → (net_read i ≡ None) × (net_fixed i ≡ Some (record { message = None; answer = item_of (net_done (id_of i.packet) 2) [] })) }
 {}

@@ -4,3 +4,5 @@ pub mod CameLaws
 pub mod PutLaws
 pub mod PageHeadLaws
 pub mod BareLaws
+pub mod NetCameLaws
+pub mod NetFixedLaws

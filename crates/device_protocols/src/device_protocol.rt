@@ -1,9 +1,9 @@
 //! The protocol of a channel of any kind.
-ghost use Rattle.std.specs.Prelude.{◌≡◌, ◌≤◌, ◌<◌, ◌^◌, ◌&&◌, ◌==◌, ◌⊎◌, ◌+◌, ◌++◌, ℕ, [], length, take, slice_get, true, false, Some, None, IsSome, MatchOption, is_some, vec_len, vec_capacity};
+ghost use Rattle.std.specs.Prelude.{◌≡◌, ◌≤◌, ◌<◌, ◌^◌, ℕ, ◌&&◌, ◌==◌, ◌⊎◌, ◌+◌, ◌++◌, [], length, take, slice_get, true, false, Some, None, IsSome, MatchOption, is_some, vec_len, vec_capacity};
 ghost use Rattle.std.specs.List.{AllByRecursion};
 ghost use Rattle.ring_machine.specs.States.{IsPacket};
-ghost use Rattle.channel_protocol.specs.Listed.{answer_in, has_message_in, listed_packet, message_in};
-ghost use Rattle.channel_protocol.specs.Paged.{IsWritten, Lays, LaysSome, bare_item, item_in, words_lent};
+ghost use Rattle.channel_protocol.specs.Listed.{answer_in, has_message_in, message_in};
+ghost use Rattle.channel_protocol.specs.Paged.{IsWritten, Lays, LaysSome, item_in, words_lent};
 ghost use Rattle.page_kept.specs.declared.item.Item.{Item};
 ghost use Rattle.page_kept.specs.Items.{item_of};
 ghost use Rattle.channel_model.specs.Lift.{or_else};
@@ -14,23 +14,26 @@ ghost use Rattle.script_lines.specs.declared.line.Ask.{Ask as OneAsk};
 ghost use Rattle.device_formats.specs.declared.want.Want.{Want as OneWant};
 ghost use Rattle.device_formats.specs.declared.want.Want.TheVariants.{Starts, Script};
 ghost use Rattle.device_formats.specs.Kinds.{ic_request as ic_of, disk_request as disk_of, net_request as net_of, disk_reply as disk_reply_of, net_reply as net_reply_of};
-ghost use Rattle.device_formats.specs.Wants.{first_steps, start_answered, subs_asked, startup, step_at, IsAskable};
+ghost use Rattle.device_formats.specs.Wants.{disk_step, first_steps, start_answered, subs_asked, startup, step_at, IsAskable};
 ghost use Rattle.device_formats.specs.Formats.{besides_on, lends_on, encode_on, waits_on, read_on, fits_on, answer_on, said_on, format_of};
 ghost use Rattle.device_formats.specs.Items.{said_item};
-ghost use Rattle.device_formats.specs.Nets.{message_of};
+ghost use Rattle.device_formats.specs.Nets.{back_in_form};
+ghost use Rattle.device_formats.specs.PageNets.{message_of};
+ghost use Rattle.device_formats.specs.declared.buffer_lists.BufferLists.{BufferLists as Lists};
 ghost use Rattle.device_formats.specs.ChannelScript.{asks_of};
 ghost use Rattle.device_protocols.specs.Heads.{srb_in, IsHead};
 
 use crate::Head;
 use crate::disks::write_start;
-use crate::nets::{
-    asks_net, has_net_message, is_net_request, keep_net_said, read_net, write_done, write_net_ask,
-    write_net_fixed, write_net_fixed_message, write_net_message, write_net_start,
-};
-use crate::packets::{COMPLETION, INBAND, is_inband};
+use crate::nets::write_done;
+use crate::packets::{COMPLETION, TRANSFER, is_inband};
 use crate::page_disks::{
     is_page_request, keep_page_said, page_head, read_page, write_page_answer, write_page_ask,
     write_page_fixed,
+};
+use crate::page_nets::{
+    asks_net, has_net_message, is_net_request, keep_net_said, read_net, write_net_ack,
+    write_net_ask, write_net_fixed, write_net_fixed_message, write_net_message, write_net_start,
 };
 use crate::services::{
     asks_service, keep_said as keep_service_said, read_service, write_ask, write_negotiate,
@@ -39,17 +42,17 @@ use crate::services::{
 use bus_script::{Ask, Reply};
 use channel_protocol::{Protocol, Written};
 use contact::DeviceKind;
-use device_formats::Want;
+use device_formats::{BufferLists, Want};
 use rndis_msg::Rndis;
 use scsi_disk::{DiskReply, DiskRequest};
 use std::marker::Model;
 use stor_proto::Vstor;
 use util_ic::IcAsk;
 
-/// The part of an end in the protocol of a channel: the kind of the channel, its number among the device's channels, how many are beside the first one, and
+/// The part of an end in the protocol of a channel: the kind of the channel, its number among the device's channels, how many are beside the first one, the page lists of a network's buffers, and
 /// what the script asks on it. The end that serves asks nothing.
 ///
-/// A network starts up with three: an init, a version that has no answer, and an initialize. A utility service starts up with one request, which negotiates its versions, and a disk with four: it begins, version 6.2 is asked for, then the
+/// A network starts up with five: an init, a version that has no answer, the page lists of the receive buffer and of the send buffer, and an initialize. A utility service starts up with one request, which negotiates its versions, and a disk with four: it begins, version 6.2 is asked for, then the
 /// properties, and it ends. A fifth one asks for the sub-channels, where the disk has some. A sub-channel has no start-up. Linux asks for version 6.0 and then for 5.1 where one is refused; between the two ends of this program none is, so the list
 /// is fixed.
 #[derive(Drop)]
@@ -57,6 +60,7 @@ pub struct DeviceProtocol {
     kind: DeviceKind,
     sub: u32,
     subs: u32,
+    lists: BufferLists,
     asks: Vec<Ask>,
 }
 
@@ -66,23 +70,30 @@ impl Model for DeviceProtocol {
 
     ghost Value = { ChannelScript };
 
-    ghost view = { λ t. record { kind = t.kind; sub = t.sub; subs = t.subs; asks = t.asks.items } };
+    ghost view = { λ t. record { kind = t.kind; sub = t.sub; subs = t.subs; lists = t.lists; asks = t.asks.items } };
 
     ghost invariant = { λ t. CanAsk t.kind t.asks.items × (t.subs ≤ 3) };
 }
 
 impl DeviceProtocol {
-    /// The protocol of a channel of this kind on which this is asked.
-    pub fn make(kind: DeviceKind, sub: u32, subs: u32, asks: Vec<Ask>) -> DeviceProtocol
+    /// The protocol of a channel of this kind on which this is asked. The end that asks a network's adapter tells these page lists.
+    pub fn make(
+        kind: DeviceKind,
+        sub: u32,
+        subs: u32,
+        lists: BufferLists,
+        asks: Vec<Ask>,
+    ) -> DeviceProtocol
         requires subs { subs ≤ 3 }
         requires can { AllByRecursion (IsAskable kind) asks.items }
         requires few { length asks.items < 2 ^ 31 }
-        ensures { result ≡ record { kind = kind; sub = sub; subs = subs; asks = asks.items } }
+        ensures { result ≡ record { kind = kind; sub = sub; subs = subs; lists = lists; asks = asks.items } }
     {
         DeviceProtocol {
             kind,
             sub,
             subs,
+            lists,
             asks,
         }
     }
@@ -109,7 +120,7 @@ impl DeviceProtocol {
     {
         let starts = count_starts(self.kind, self.sub, self.subs);
         if k < starts {
-            return Written::bare(encode_start(self.kind, self.sub, self.subs, k, id, out));
+            return encode_start(self.kind, self.sub, self.subs, self.lists, k, id, out, page);
         }
         encode_ask(self.kind, &self.asks[(k - starts) as usize], id, out, page)
     }
@@ -126,6 +137,7 @@ impl DeviceProtocol {
     )
         requires which { k < length (asks_of self.now) }
         requires before { before.now ≡ [] ⊎ IsPacket before.now }
+        requires before_words { length before_words.now ≤ 512 }
         requires packet { IsPacket packet.now }
         requires words { length words.now ≤ 512 }
         requires room { vec_len replies.old < vec_capacity replies.old }
@@ -158,25 +170,25 @@ fn besides_on(kind: DeviceKind) -> bool
     }
 }
 
-/// Whether a step of the start-up has an answer.
-fn start_answered(kind: DeviceKind, step: u32) -> bool
-    ensures { result ≡ start_answered kind step }
+/// Whether the k-th step of a start-up has an answer: each does but for a network's version.
+fn start_answered(kind: DeviceKind, k: u32) -> bool
+    ensures { (subs : ℕ) (lists : Lists) → result ≡ start_answered kind (step_at kind subs lists k) }
 {
     match kind {
         DeviceKind::Beat | DeviceKind::Down | DeviceKind::Disk => true,
-        DeviceKind::Net => step != 1,
+        DeviceKind::Net => k != 1,
     }
 }
 
 /// How many requests each start-up of a channel of this kind begins with.
 fn count_first(kind: DeviceKind) -> u32
-    ensures value { result ≡ length (first_steps kind) }
-    ensures few { result ≤ 4 }
+    ensures value { (lists : Lists) → result ≡ length (first_steps kind lists) }
+    ensures few { result ≤ 5 }
 {
     match kind {
         DeviceKind::Beat | DeviceKind::Down => 1,
         DeviceKind::Disk => 4,
-        DeviceKind::Net => 3,
+        DeviceKind::Net => 5,
     }
 }
 
@@ -193,8 +205,8 @@ fn count_asking(kind: DeviceKind, subs: u32) -> u32
 
 /// How many requests the start-up of a channel has.
 fn count_starts(kind: DeviceKind, sub: u32, subs: u32) -> u32
-    ensures value { result ≡ length (startup kind sub subs) }
-    ensures few { result ≤ 5 }
+    ensures value { (lists : Lists) → result ≡ length (startup kind sub subs lists) }
+    ensures few { result ≤ 6 }
 {
     if sub == 0 {
         count_first(kind) + count_asking(kind, subs)
@@ -203,28 +215,41 @@ fn count_starts(kind: DeviceKind, sub: u32, subs: u32) -> u32
     }
 }
 
-/// The number of the k-th step of a start-up.
-fn step_at(subs: u32, k: u32) -> u32
+/// The number of the k-th step of a disk's start-up.
+fn disk_step(subs: u32, k: u32) -> u32
     requires { subs ≤ 3 }
-    ensures { result ≡ step_at subs k }
+    ensures { result ≡ disk_step subs k }
 {
     if k == 4 { 3 + subs } else { k }
 }
 
-/// Writes the k-th packet of the start-up under an id: its words. It lends no page.
-fn encode_start(kind: DeviceKind, sub: u32, subs: u32, k: u32, id: u64, out: &mut [u64]) -> usize
-    requires some { k < length (startup kind sub subs) }
+/// Writes the k-th packet of the start-up under an id, and its page words.
+fn encode_start(
+    kind: DeviceKind,
+    sub: u32,
+    subs: u32,
+    lists: BufferLists,
+    k: u32,
+    id: u64,
+    out: &mut [u64],
+    page: &mut [u64],
+) -> Written
+    requires some { k < length (startup kind sub subs lists) }
     requires subs { subs ≤ 3 }
+    requires id { lends_on kind ≡ true → id ≤ 64 }
     requires out { length out.old ≡ 384 }
-    ensures packet { bare_item (take result out.new) ≡ encode_on kind id (Starts (step_at subs k)) }
-    ensures is_packet { IsPacket (take result out.new) }
-    ensures most { result ≤ 384 }
-    ensures none { lends_on kind ≡ true → words_lent (take result out.new) ≡ 0 }
+    requires page { length page.old ≡ 512 }
+    ensures value { (i : Item) → Lays (take result.packet out.new) (take result.words page.new) result.lent i → said_item i ≡ encode_on kind id (Starts (step_at kind subs lists k)) }
+    ensures is_packet { IsPacket (take result.packet out.new) }
+    ensures most { IsWritten result }
+    ensures lent { lends_on kind ≡ true → result.lent ≡ words_lent (take result.packet out.new) }
+    ensures none { lends_on kind ≡ false → result.lent ≡ 0 }
+    ensures page { length page.new ≡ 512 }
 {
     match kind {
-        DeviceKind::Beat | DeviceKind::Down => write_negotiate(kind, id, out),
-        DeviceKind::Disk => write_start(step_at(subs, k), id, out),
-        DeviceKind::Net => write_net_start(step_at(subs, k), id, out),
+        DeviceKind::Beat | DeviceKind::Down => Written::bare(write_negotiate(kind, id, out)),
+        DeviceKind::Disk => Written::bare(write_start(disk_step(subs, k), id, out)),
+        DeviceKind::Net => write_net_start(k, lists, id, out, page),
     }
 }
 
@@ -288,7 +313,7 @@ fn encode_ask(kind: DeviceKind, ask: &Ask, id: u64, out: &mut [u64], page: &mut 
     match kind {
         DeviceKind::Beat | DeviceKind::Down => Written::bare(write_ask(ic_request(ask), id, out)),
         DeviceKind::Disk => write_page_ask(disk_request(ask), id, out, page),
-        DeviceKind::Net => Written::bare(write_net_ask(net_request(ask), id, out)),
+        DeviceKind::Net => write_net_ask(net_request(ask), id, out, page),
     }
 }
 
@@ -323,7 +348,7 @@ fn head(kind: DeviceKind, packet: &[u64], words: &[u64]) -> Option<Head>
             Some(v) => Some(Head::Srb(v)),
             None => None,
         },
-        DeviceKind::Net => plain(asks_net(packet)),
+        DeviceKind::Net => plain(asks_net(packet, words)),
     }
 }
 
@@ -347,7 +372,7 @@ fn read(kind: DeviceKind, packet: &[u64], words: &[u64], head: &Head) -> Ask
     match kind {
         DeviceKind::Beat | DeviceKind::Down => Ask::Ic(read_service(kind, packet)),
         DeviceKind::Disk => Ask::Disk(read_page(packet, words, srb(head))),
-        DeviceKind::Net => Ask::Net(read_net(packet)),
+        DeviceKind::Net => Ask::Net(read_net(packet, words)),
     }
 }
 
@@ -364,7 +389,7 @@ fn write_fixed_on(kind: DeviceKind, packet: &[u64], words: &[u64], out: &mut [u6
     match kind {
         DeviceKind::Beat | DeviceKind::Down => write_service_fixed(kind, packet, out),
         DeviceKind::Disk => write_page_fixed(packet, words, out),
-        DeviceKind::Net => write_net_fixed(packet, out),
+        DeviceKind::Net => write_net_fixed(packet, words, out),
     }
 }
 
@@ -440,50 +465,62 @@ fn is_message(kind: DeviceKind, packet: &[u64]) -> bool
 {
     match kind {
         DeviceKind::Beat | DeviceKind::Down | DeviceKind::Disk => false,
-        DeviceKind::Net => is_type(packet, INBAND),
+        DeviceKind::Net => is_type(packet, TRANSFER),
     }
 }
 
-/// Writes what acknowledges a message: its words.
+/// Writes what acknowledges a message: its words. Nothing of a page that goes back with it is read.
 fn write_ack_on(kind: DeviceKind, packet: &[u64], out: &mut [u64]) -> usize
     requires packet { IsPacket packet.now }
     requires out { length out.old ≡ 384 }
-    ensures value { (i : Item) → i.packet ≡ packet.now → (format_of kind).is_message i ≡ true → bare_item (take result out.new) ≡ (format_of kind).ack i }
-    ensures none { lends_on kind ≡ true → (i : Item) → (format_of kind).is_message i ≡ false }
+    ensures value { (i j : Item) → i.packet ≡ packet.now → (format_of kind).is_message i ≡ true → j.packet ≡ take result out.new → said_item j ≡ (format_of kind).ack i }
     ensures written { (i : Item) → i.packet ≡ packet.now → (format_of kind).is_message i ≡ true → IsPacket (take result out.new) }
     ensures most { result ≤ 384 }
 {
     match kind {
         DeviceKind::Beat | DeviceKind::Down | DeviceKind::Disk => 0,
-        DeviceKind::Net => write_done(packet[1], 1, out),
+        DeviceKind::Net => write_net_ack(packet, out),
     }
 }
 
 /// Whether a message goes back besides a fixed answer.
 #[tactic(auto, using(device_formats::proofs::FormatLaws::none_fixed))]
-fn has_fixed_message_on(kind: DeviceKind, packet: &[u64]) -> bool
-    requires { IsPacket packet.now }
-    ensures { (i : Item) → i.packet ≡ packet.now → result ≡ has_message_in ((format_of kind).fixed i) }
+fn has_fixed_message_on(kind: DeviceKind, packet: &[u64], words: &[u64]) -> bool
+    requires packet { IsPacket packet.now }
+    requires words { length words.now ≤ 512 }
+    ensures { result ≡ has_message_in ((format_of kind).fixed (said_item (item_of packet.now words.now))) }
 {
     match kind {
         DeviceKind::Beat | DeviceKind::Down | DeviceKind::Disk => false,
-        DeviceKind::Net => has_net_message(packet),
+        DeviceKind::Net => has_net_message(packet, words),
     }
 }
 
-/// Writes that message, if there is one, under an id of the serving end's own: its words.
+/// Writes that message, if there is one, under an id of the serving end's own, and its page words.
 #[tactic(auto, using(device_formats::proofs::FormatLaws::none_fixed_in, crate::proofs::BareLaws::none_so))]
-fn write_fixed_message_on(kind: DeviceKind, packet: &[u64], own: u64, out: &mut [u64]) -> usize
+fn write_fixed_message_on(
+    kind: DeviceKind,
+    packet: &[u64],
+    words: &[u64],
+    own: u64,
+    out: &mut [u64],
+    page: &mut [u64],
+) -> Written
     requires packet { IsPacket packet.now }
+    requires words { length words.now ≤ 512 }
+    requires own { lends_on kind ≡ true → own ≤ 64 }
     requires out { length out.old ≡ 384 }
-    ensures value { (i : Item) → i.packet ≡ packet.now → LaysSome said_item (take result out.new) [] 0 (message_in own ((format_of kind).fixed i)) }
-    ensures none { lends_on kind ≡ true → result ≡ 0 }
-    ensures written { 0 < result → IsPacket (take result out.new) }
-    ensures most { result ≤ 384 }
+    requires page { length page.old ≡ 512 }
+    ensures value { LaysSome said_item (take result.packet out.new) (take result.words page.new) result.lent (message_in own ((format_of kind).fixed (said_item (item_of packet.now words.now)))) }
+    ensures written { 0 < result.packet → IsPacket (take result.packet out.new) }
+    ensures most { IsWritten result }
+    ensures lent { lends_on kind ≡ true → result.lent ≡ words_lent (take result.packet out.new) }
+    ensures none { lends_on kind ≡ false → result.lent ≡ 0 }
+    ensures page { length page.new ≡ 512 }
 {
     match kind {
-        DeviceKind::Beat | DeviceKind::Down | DeviceKind::Disk => 0,
-        DeviceKind::Net => write_net_fixed_message(packet, own, out),
+        DeviceKind::Beat | DeviceKind::Down | DeviceKind::Disk => Written::bare(0),
+        DeviceKind::Net => write_net_fixed_message(packet, words, own, out, page),
     }
 }
 
@@ -497,16 +534,21 @@ fn has_back(reply: &Reply) -> bool
     }
 }
 
-/// Writes it, if one did, under an id of the serving end's own: its words.
-fn write_back(reply: &Reply, own: u64, out: &mut [u64]) -> usize
+/// Writes it, if one did, under an id of the serving end's own, and its page words.
+fn write_back(reply: &Reply, own: u64, out: &mut [u64], page: &mut [u64]) -> Written
+    requires formed { back_in_form (or_else not_served (net_reply_of reply.now)).back ≡ true }
+    requires own { own ≤ 64 }
     requires out { length out.old ≡ 384 }
-    ensures value { listed_packet (take result out.new) ≡ listed (under_own own (message_of (or_else not_served (net_reply_of reply.now)).back)) }
-    ensures written { 0 < result → IsPacket (take result out.new) }
-    ensures most { result ≤ 384 }
+    requires page { length page.old ≡ 512 }
+    ensures value { LaysSome said_item (take result.packet out.new) (take result.words page.new) result.lent (under_own own (message_of (or_else not_served (net_reply_of reply.now)).back)) }
+    ensures written { 0 < result.packet → IsPacket (take result.packet out.new) }
+    ensures most { IsWritten result }
+    ensures lent { result.lent ≡ words_lent (take result.packet out.new) }
+    ensures page { length page.new ≡ 512 }
 {
     match reply {
-        Reply::Net { back, .. } => write_net_message(back, own, out),
-        Reply::Ic(_) | Reply::Disk(_) => 0,
+        Reply::Net { back, .. } => write_net_message(back, own, out, page),
+        Reply::Ic(_) | Reply::Disk(_) => Written::bare(0),
     }
 }
 
@@ -530,17 +572,33 @@ fn has_message_on(kind: DeviceKind, reply: &Reply) -> bool
     }
 }
 
-/// Writes that message, if there is one, under an id of the serving end's own: its words.
-fn write_message_on(kind: DeviceKind, reply: &Reply, own: u64, out: &mut [u64]) -> usize
+/// Writes that message, if there is one, under an id of the serving end's own, and its page words.
+fn write_message_on(
+    kind: DeviceKind,
+    packet: &[u64],
+    words: &[u64],
+    reply: &Reply,
+    own: u64,
+    out: &mut [u64],
+    page: &mut [u64],
+) -> Written
+    requires packet { IsPacket packet.now }
+    requires words { length words.now ≤ 512 }
+    requires fits { (q : OneAsk) × (read_on kind (said_item (item_of packet.now words.now)) ≡ Some q) × (fits_on kind q reply.now ≡ true) }
+    requires own { lends_on kind ≡ true → own ≤ 64 }
     requires out { length out.old ≡ 384 }
-    ensures value { (i : Item) → LaysSome said_item (take result out.new) [] 0 (under_own own ((format_of kind).gives i reply.now).message) }
-    ensures none { lends_on kind ≡ true → result ≡ 0 }
-    ensures written { 0 < result → IsPacket (take result out.new) }
-    ensures most { result ≤ 384 }
+    requires page { length page.old ≡ 512 }
+    ensures value { (i : Item) → LaysSome said_item (take result.packet out.new) (take result.words page.new) result.lent (under_own own ((format_of kind).gives i reply.now).message) }
+    ensures written { 0 < result.packet → IsPacket (take result.packet out.new) }
+    ensures most { IsWritten result }
+    ensures lent { lends_on kind ≡ true → result.lent ≡ words_lent (take result.packet out.new) }
+    ensures none { lends_on kind ≡ false → result.lent ≡ 0 }
+    ensures page { length page.new ≡ 512 }
 {
+    let _len = packet.len() + words.len();
     match kind {
-        DeviceKind::Beat | DeviceKind::Down | DeviceKind::Disk => 0,
-        DeviceKind::Net => write_back(reply, own, out),
+        DeviceKind::Beat | DeviceKind::Down | DeviceKind::Disk => Written::bare(0),
+        DeviceKind::Net => write_back(reply, own, out, page),
     }
 }
 
@@ -554,6 +612,7 @@ fn keep_said(
     replies: &mut Vec<Reply>,
 )
     requires before { before.now ≡ [] ⊎ IsPacket before.now }
+    requires before_words { length before_words.now ≤ 512 }
     requires packet { IsPacket packet.now }
     requires words { length words.now ≤ 512 }
     requires room { vec_len replies.old < vec_capacity replies.old }
@@ -564,7 +623,7 @@ fn keep_said(
     match kind {
         DeviceKind::Beat | DeviceKind::Down => keep_service_said(kind, packet, replies),
         DeviceKind::Disk => keep_page_said(packet, words, replies),
-        DeviceKind::Net => keep_net_said(before, packet, replies),
+        DeviceKind::Net => keep_net_said(before, before_words, packet, words, replies),
     }
 }
 
@@ -614,9 +673,9 @@ impl Protocol for DeviceProtocol {
 
     ghost asks = { asks_of };
 
-    ghost starts = { λ s. length (startup s.kind s.sub s.subs) };
+    ghost starts = { λ s. length (startup s.kind s.sub s.subs s.lists) };
 
-    ghost within = { λ s. starts_within s.kind s.sub s.subs (map Script s.asks) };
+    ghost within = { λ s. starts_within s.kind s.sub s.subs s.lists (map Script s.asks) };
 
     fn count(&self) -> u32 {
         count_starts(self.kind, self.sub, self.subs) + self.asks.len() as u32
@@ -633,7 +692,7 @@ impl Protocol for DeviceProtocol {
     /// Each request of a script has one, which can be asked, and so has each step of a start-up but the second one of a network.
     fn has_answer(&self, k: u32) -> bool {
         if k < count_starts(self.kind, self.sub, self.subs) {
-            return start_answered(self.kind, step_at(self.subs, k));
+            return start_answered(self.kind, k);
         }
         true
     }
@@ -674,19 +733,19 @@ impl Protocol for DeviceProtocol {
         read(self.kind, packet, words, head)
     }
 
-    fn has_fixed_message(&self, packet: &[u64], _words: &[u64]) -> bool {
-        has_fixed_message_on(self.kind, packet)
+    fn has_fixed_message(&self, packet: &[u64], words: &[u64]) -> bool {
+        has_fixed_message_on(self.kind, packet, words)
     }
 
     fn write_fixed_message(
         &self,
         packet: &[u64],
-        _words: &[u64],
+        words: &[u64],
         own: u64,
         out: &mut [u64],
-        _page: &mut [u64],
+        page: &mut [u64],
     ) -> Written {
-        Written::bare(write_fixed_message_on(self.kind, packet, own, out))
+        write_fixed_message_on(self.kind, packet, words, own, out, page)
     }
 
     fn write_fixed(&self, packet: &[u64], words: &[u64], out: &mut [u64]) -> usize {
@@ -699,14 +758,14 @@ impl Protocol for DeviceProtocol {
 
     fn write_message(
         &self,
-        _packet: &[u64],
-        _words: &[u64],
+        packet: &[u64],
+        words: &[u64],
         reply: &Reply,
         own: u64,
         out: &mut [u64],
-        _page: &mut [u64],
+        page: &mut [u64],
     ) -> Written {
-        Written::bare(write_message_on(self.kind, reply, own, out))
+        write_message_on(self.kind, packet, words, reply, own, out, page)
     }
 
     fn write_answer(

@@ -8,6 +8,7 @@ mod head;
 mod nets;
 mod packets;
 mod page_disks;
+mod page_nets;
 mod services;
 
 pub use askable::is_askable;

@@ -3,12 +3,15 @@ ghost use Rattle.std.specs.Prelude.{◌≡◌, ◌≤◌, ◌+◌, length, take}
 ghost use Rattle.ring_machine.specs.States.{IsPacket};
 ghost use Rattle.pkt_desc.specs.Packets.{payload_of};
 ghost use Rattle.device_formats.specs.Packets.{is_of, is_inband as inband, is_completion as completion, content_of};
+ghost use Rattle.device_formats.specs.Nets.{is_transfer as transfer};
 ghost use Rattle.device_formats.specs.PageDisks.{is_direct as direct};
 
 use vm_page::bytes_of;
 
-/// The types of in-band data, of data that names pages, and of a completion.
+/// The types of in-band data, of data that names parts of a buffer, of data that names pages, and of a completion.
 pub(crate) const INBAND: u64 = 6;
+
+pub(crate) const TRANSFER: u64 = 7;
 
 pub(crate) const GPA_DIRECT: u64 = 9;
 
@@ -41,6 +44,15 @@ pub(crate) fn is_direct(packet: &[u64]) -> bool
     ensures value { result ≡ direct packet.now }
 {
     is_of_type(packet, GPA_DIRECT)
+}
+
+/// Whether a packet names parts of a buffer and has at most 384 words.
+#[tactic(auto, unfolding(device_formats::specs::Nets::is_transfer))]
+pub(crate) fn is_transfer(packet: &[u64]) -> bool
+    requires { IsPacket packet.now }
+    ensures value { result ≡ transfer packet.now }
+{
+    is_of_type(packet, TRANSFER)
 }
 
 /// Whether a packet is a completion of at most 384 words.

@@ -50,7 +50,7 @@ const DATA_TRANSFER_LENGTH: usize = 12;
 const CDB: usize = 16;
 
 /// Puts bytes into the first words of a page, the last one padded with zeros: how many words they are.
-fn put_words(bytes: &[u8], page: &mut [u64]) -> usize
+pub(crate) fn put_words(bytes: &[u8], page: &mut [u64]) -> usize
     requires few { length bytes.now ≤ 4096 }
     requires page { length page.old ≡ 512 }
     ensures len { result ≡ words_for (length bytes.now) }

@@ -1,5 +1,5 @@
 -- What comes of an offer; one of an unknown class is refused.
-use Rattle.std.proofs.Common.{◌≡◌, ◌∙◌, Result, Ok, Err, sym, ap, refl}
+use Rattle.std.proofs.Common.{◌≡◌, ◌∙◌, Result, Ok, Err, sym, ap}
 use Rattle.vmbus_msg.specs.declared.msg.Msg.{Msg}
 use Rattle.vmbus_msg.specs.declared.msg.Msg.TheVariants.{OfferChannel}
 use Rattle.contact.specs.declared.channel_offer.OfferFault.{OfferFault}

@@ -1,2 +1,3 @@
 pub mod AsSide
 pub mod Handles
+pub mod Told

@@ -12,6 +12,7 @@ ghost use Rattle.control_model.specs.Sock.{sock_plan};
 ghost use Rattle.control_model.specs.Messages.{Sends};
 ghost use Rattle.control_model.specs.Channels.{by_relid, move_at, move_all, changed};
 ghost use Rattle.guest_end.specs.Handles.{AreApart, next_handle};
+ghost use Rattle.guest_end.specs.Told.{lists_told, told_by};
 ghost use Rattle.control_model.specs.Guest.{new_guest, IsFit, GuestSeen, guest_done, can_begin, state_of, guest_hears, guest_after, GuestBegins, GuestTakes, Refuses};
 
 use crate::turns::{by_relid, lived};
@@ -184,6 +185,13 @@ impl GuestControl {
         &self.posted
     }
 
+    /// The handles of the last two page lists that it told the host for a channel, in order. Once a network's channel is open these are the receive buffer's and the send buffer's. 0 stands for none.
+    pub fn last_lists(&self, relid: u32) -> (u32, u32)
+        ensures { result ≡ lists_told relid (0, 0) self.now.posted }
+    {
+        last_lists(&self.posted, relid)
+    }
+
     /// All messages that it took, in order.
     pub fn fed(&self) -> &[Msg]
         ensures { result.now ≡ self.now.fed }
@@ -294,6 +302,31 @@ fn next_handle(rising: Option<u64>, before: Option<u32>, now: Option<u32>) -> Op
         Some(next) if next <= handle as u64 => Some(handle as u64 + 1),
         _ => None,
     }
+}
+
+// The handles of the last two page lists of a channel, behind one more message.
+fn told_behind(relid: u32, told: (u32, u32), m: &Msg) -> (u32, u32)
+    ensures { result ≡ told_by relid told m.now }
+{
+    match m {
+        Msg::GpadlHeader(header) => if header.relid == relid {
+            (told.1, header.gpadl)
+        } else {
+            told
+        },
+        _ => told,
+    }
+}
+
+// The handles of the last two page lists of a channel that stand in messages.
+fn last_lists(posted: &[Msg], relid: u32) -> (u32, u32)
+    ensures { result ≡ lists_told relid (0, 0) posted.now }
+{
+    let mut told = (0, 0);
+    for m in posted {
+        told = told_behind(relid, told, m);
+    }
+    told
 }
 
 // Puts messages into the box, and behind those that were posted.

@@ -159,6 +159,13 @@ fn leave<R: Abort + Threads + Wait + Sync>(rt: &R, path: ControlPath) -> PathOve
     path.end(rt)
 }
 
+// The last two page lists that the guest told for each of the networks' channels, and for none of another one.
+fn check_lists(rt: &impl Abort, path: &ControlPath, n: (u32, u32), m: (u32, u32)) {
+    check(rt, path.last_lists(1) == n);
+    check(rt, path.last_lists(2) == m);
+    check(rt, path.last_lists(3) == (0, 0));
+}
+
 // Runs all parts of the script, which has two phases.
 fn stay<R: Abort + AllocGlobal + Threads + Wait + Sync>(rt: &R) -> PathOver {
     let Ok(script) = parse(rt.alloc(), SCRIPT) else {
@@ -168,9 +175,12 @@ fn stay<R: Abort + AllocGlobal + Threads + Wait + Sync>(rt: &R) -> PathOver {
         panic!(rt; "no path");
     };
     let contacted = go(rt, path);
+    check_lists(rt, &contacted, (0, 0), (0, 0));
     let opened = go(rt, contacted);
+    check_lists(rt, &opened, (GPADL + 1, GPADL + 2), (GPADL + 4, GPADL + 5));
     let closed = go(rt, opened);
     let again = go(rt, closed);
+    check_lists(rt, &again, (GPADL + 7, GPADL + 8), (GPADL + 4, GPADL + 5));
     let ended = go(rt, again);
     leave(rt, ended)
 }

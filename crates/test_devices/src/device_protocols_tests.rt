@@ -7,6 +7,7 @@ use crate::said::said;
 use bus_script::{Ask, Reply};
 use channel_protocol::Protocol;
 use contact::DeviceKind;
+use device_formats::BufferLists;
 use device_protocols::{DeviceProtocol, is_askable};
 use hist_lock::Machine;
 use scsi_disk::{Chunk, Disk, DiskReply, DiskRequest};
@@ -30,7 +31,7 @@ fn protocol_of(
     }
     let mut asks = Vec::with_capacity(alloc, 1)?;
     asks.push(ask)?;
-    Ok(DeviceProtocol::make(kind, 0, 0, asks))
+    Ok(DeviceProtocol::make(kind, 0, 0, BufferLists::NONE, asks))
 }
 
 /// Wants a packet of this first word and id with these first bytes of its payload, and zeros behind them up to 64 bytes.
@@ -84,7 +85,13 @@ fn starts(
 
 #[test]
 fn disks_start_up(rt: HostRuntime) -> Result<(), Fail> {
-    let protocol = DeviceProtocol::make(DeviceKind::Disk, 0, 0, Vec::with_capacity(rt.alloc(), 0)?);
+    let protocol = DeviceProtocol::make(
+        DeviceKind::Disk,
+        0,
+        0,
+        BufferLists::NONE,
+        Vec::with_capacity(rt.alloc(), 0)?,
+    );
     check(&rt, protocol.starts() == 4);
     let t = &protocol;
     starts(
@@ -130,7 +137,13 @@ fn disks_start_up(rt: HostRuntime) -> Result<(), Fail> {
 // The first channel asks for the sub-channels in the end, and a sub-channel asks for nothing.
 #[test]
 fn disks_ask_for_sub_channels(rt: HostRuntime) -> Result<(), Fail> {
-    let first = DeviceProtocol::make(DeviceKind::Disk, 0, 3, Vec::with_capacity(rt.alloc(), 0)?);
+    let first = DeviceProtocol::make(
+        DeviceKind::Disk,
+        0,
+        3,
+        BufferLists::NONE,
+        Vec::with_capacity(rt.alloc(), 0)?,
+    );
     check(&rt, first.starts() == 5);
     starts(
         &rt,
@@ -148,7 +161,13 @@ fn disks_ask_for_sub_channels(rt: HostRuntime) -> Result<(), Fail> {
         [13, 0, 0, 0, 1, 0, 0, 0, 0, 0, 0, 0, 3, 0],
         &[1, 0, 0, 0, 1, 0, 0, 0, 0, 0, 0, 0, 3],
     );
-    let other = DeviceProtocol::make(DeviceKind::Disk, 2, 3, Vec::with_capacity(rt.alloc(), 0)?);
+    let other = DeviceProtocol::make(
+        DeviceKind::Disk,
+        2,
+        3,
+        BufferLists::NONE,
+        Vec::with_capacity(rt.alloc(), 0)?,
+    );
     check(&rt, (other.count(), other.starts()) == (0, 0));
     Ok(())
 }

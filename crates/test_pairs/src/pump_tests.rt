@@ -9,6 +9,7 @@ use crate::only_seat::only_seat;
 use bus_script::{Ask, Reply};
 use contact::DeviceKind;
 use device_any::DeviceSeat;
+use device_formats::BufferLists;
 use io_edge::NoGate;
 use ring_seat::ChannelMem;
 use std::alloc::AllocGlobal;
@@ -43,6 +44,7 @@ fn workers(rt: &(impl Abort + AllocGlobal)) -> (GuestWorker, HostWorker)
         subs: 0,
         window: 1,
         count: 2,
+        lists: BufferLists::NONE,
         stop: None,
     };
     make_both(alloc, guest, host, DeviceSeat::Beat(seat), plan, asks(rt)).expect(rt, "memory")

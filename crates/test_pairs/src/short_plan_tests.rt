@@ -46,6 +46,8 @@ fn guest_of(rt: &(impl Abort + AllocGlobal), end: GuestEnd, window: u32) -> Gues
         subs: 0,
         window,
         count: 3,
+        receive_list: 0,
+        send_list: 0,
         disk: Vec::from_array(alloc, asks).expect(rt, "memory"),
         net: Vec::new(alloc),
     };

@@ -32,6 +32,8 @@ fn guest_of(rt: &(impl Abort + AllocGlobal), end: GuestEnd) -> GuestWorker
         subs: 0,
         window: 1,
         count: 2,
+        receive_list: 0,
+        send_list: 0,
         disk: Vec::new(alloc),
         net: Vec::new(alloc),
     };

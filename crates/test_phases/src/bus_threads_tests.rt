@@ -13,8 +13,11 @@ use bus_threads::{Pair, PairDone, open_pair, run_pair, run_phase};
 use chan_state::Stop;
 use contact::DeviceKind;
 use device_any::DeviceSeat;
+use device_formats::BufferLists;
 use io_edge::NoGate;
+use net_dev::Station;
 use ring_core::Packets;
+use rndis_msg::{Rndis, Small};
 use scsi_disk::{Chunk, Command, Disk, DiskReply, DiskRequest};
 use std::alloc::AllocGlobal;
 use std::process::Abort;
@@ -54,6 +57,7 @@ fn beats(rt: &(impl Abort + AllocGlobal)) -> Pair {
         DeviceSeat::Beat(seat),
         asks,
         None,
+        BufferLists::NONE,
     )
     .expect(rt, "memory")
 }
@@ -86,6 +90,7 @@ fn downs(rt: &(impl Abort + AllocGlobal)) -> Pair {
         DeviceSeat::Down(seat),
         asks,
         None,
+        BufferLists::NONE,
     )
     .expect(rt, "memory")
 }
@@ -145,6 +150,48 @@ fn blocks(rt: &(impl Abort + AllocGlobal), stop: Option<Stop>) -> Pair
         DeviceSeat::Disk(seat),
         asks,
         stop,
+        BufferLists::NONE,
+    )
+    .expect(rt, "memory")
+}
+
+// A query of the greatest frame, a keepalive, and a query of nothing that an adapter has. The guest tells the page lists 7 and 8.
+fn messages(rt: &(impl Abort + AllocGlobal)) -> Pair {
+    let alloc = rt.alloc();
+    let asks = three(
+        rt,
+        DeviceKind::Net,
+        [
+            Ask::Net(Rndis::Query {
+                request_id: 0,
+                oid: 0x1_0106,
+                body: Small::empty(),
+            }),
+            Ask::Net(Rndis::Keepalive { request_id: 0 }),
+            Ask::Net(Rndis::Query {
+                request_id: 0,
+                oid: 0x1_ffff,
+                body: Small::empty(),
+            }),
+        ],
+    );
+    let station = Station::make([2, 0, 0, 0, 0, 1], [2, 0, 0, 0, 0, 0xfe]);
+    let seat = only_seat(alloc, station, 3).expect(rt, "memory");
+    open_pair(
+        alloc,
+        DeviceKind::Net,
+        4,
+        0,
+        0,
+        1,
+        4,
+        DeviceSeat::Net(seat),
+        asks,
+        None,
+        BufferLists {
+            receive: 7,
+            send: 8,
+        },
     )
     .expect(rt, "memory")
 }
@@ -230,6 +277,41 @@ fn check_blocks(rt: &impl Abort, done: &PairDone) {
     }
 }
 
+// A word of a packet, or 0.
+fn word(list: &Packets, i: usize, at: usize) -> u64 {
+    match list.get(i) {
+        Some(packet) => match packet.get(at) {
+            Some(word) => *word,
+            None => 0,
+        },
+        None => 0,
+    }
+}
+
+// How many page words went with a packet.
+fn put(list: &Packets, i: usize) -> usize {
+    match list.lent(i) {
+        Some(words) => words.len(),
+        None => 0,
+    }
+}
+
+// The guest's third and fourth packet tell both page lists, and the fifth one is an initialize, whose 24 bytes stand in a page. Each end got all packets and page words as they were sent: the guest
+// acknowledged four messages.
+fn check_messages(rt: &impl Abort, done: &PairDone) {
+    let sent = done.settled.guest_sent();
+    check(rt, are_same(sent, done.settled.host_got(), 12));
+    check(
+        rt,
+        are_same(done.settled.host_sent(), done.settled.guest_got(), 11),
+    );
+    check(rt, word(sent, 2, 2) == 0x0000_0007_0000_0065);
+    check(rt, word(sent, 3, 2) == 0x0000_0008_0000_0068);
+    check(rt, put(sent, 3) == 0 && put(sent, 4) == 3);
+    check(rt, done.serials.as_slice() == [0, 1, 2].as_slice());
+    check(rt, done.replies.len() == 3);
+}
+
 // What the workers of a channel come to, by turns on this thread.
 fn run(rt: &impl Wait, pair: Pair) -> PairDone {
     run_pair(rt, &NoGate, pair)
@@ -240,6 +322,7 @@ fn pairs_by_turns(rt: HostRuntime) {
     check_beats(&rt, &run(&rt, beats(&rt)));
     check_downs(&rt, &run(&rt, downs(&rt)));
     check_blocks(&rt, &run(&rt, blocks(&rt, None)));
+    check_messages(&rt, &run(&rt, messages(&rt)));
 }
 
 // A disk that stops serves two of its requests, and answers both or the first alone.

@@ -2,6 +2,7 @@
 use crate::call::{answers, outcome_of, refusal};
 use crate::check::check;
 use bus_script::{ScriptFault, Why6};
+use ring_core::Packets;
 use std::alloc::AllocGlobal;
 use std::process::Abort;
 use std::sync::Wait;
@@ -188,9 +189,72 @@ fn messages_come_back_and_are_completed(rt: HostRuntime) {
     let outcome = outcome_of(&rt, TWO_FRAMES);
     check(&rt, outcome.settled.len() == 1);
     check(&rt, outcome.histories.len() == 1);
-    // An init, a version, an initialize and four requests, and the completions of four messages: of the initialize, of two queries and of one frame.
+    // An init, a version, two page lists, an initialize and four requests, and the completions of four messages: of the initialize, of two queries and of one frame.
     // The version has no completion.
-    check(&rt, counts(&outcome) == (11, 10));
+    check(&rt, counts(&outcome) == (13, 12));
+}
+
+// Whether the guest's messages name sections of these sizes, in order, and each went with as many page words.
+fn has_sections(list: &Packets, sizes: &[u64]) -> bool {
+    let mut next = 0;
+    for i in 0..list.len() {
+        let Some(packet) = list.get(i) else {
+            return false;
+        };
+        let Some(words) = list.lent(i) else {
+            return false;
+        };
+        if packet.len() != 7 || packet[0] % 0x1_0000 != 6 || packet[2] % 0x1_0000_0000 != 107 {
+            continue;
+        }
+        if next >= sizes.len()
+            || packet[3] / 0x1_0000_0000 != sizes[next]
+            || words.len() as u64 != sizes[next].div_ceil(8)
+        {
+            return false;
+        }
+        next += 1;
+    }
+    next == sizes.len()
+}
+
+// Whether the host's messages name parts of the receive buffer of these sizes, in order, and each went with as many page words. Each packet has nine words.
+fn has_parts(list: &Packets, sizes: &[u64]) -> bool {
+    let mut next = 0;
+    for i in 0..list.len() {
+        let Some(packet) = list.get(i) else {
+            return false;
+        };
+        let Some(words) = list.lent(i) else {
+            return false;
+        };
+        if packet.is_empty() || packet[0] % 0x1_0000 != 7 {
+            continue;
+        }
+        if packet.len() != 9
+            || next >= sizes.len()
+            || packet[3] % 0x1_0000_0000 != sizes[next]
+            || words.len() as u64 != sizes[next].div_ceil(8)
+        {
+            return false;
+        }
+        next += 1;
+    }
+    next == sizes.len()
+}
+
+// An initialize, two queries and two frames stand in sections of the send buffer, and what comes back of them in parts of the receive buffer.
+#[test]
+fn messages_stand_in_pages(rt: HostRuntime) {
+    let outcome = outcome_of(&rt, TWO_FRAMES);
+    let Some(run) = outcome.settled.first() else {
+        panic!(rt; "nothing was carried")
+    };
+    check(
+        &rt,
+        has_sections(run.settled.guest_sent(), &[24, 28, 28, 58, 58]),
+    );
+    check(&rt, has_parts(run.settled.host_sent(), &[52, 28, 24, 58]));
 }
 
 const WINDOWS: [&[u8]; 3] = [b"1", b"4", b"64"];
@@ -219,7 +283,7 @@ fn answered(rt: &(impl Threads + Wait + Sync + Abort + AllocGlobal)) -> u32 {
         let outcome = outcome_of(rt, &keepalives(rt, window));
         if outcome.status == 0
             && outcome.settled.len() == 1
-            && counts(&outcome) == (2 * MANY + 4, 2 * MANY + 3)
+            && counts(&outcome) == (2 * MANY + 6, 2 * MANY + 5)
         {
             all = all.wrapping_add(1);
         }

@@ -1,5 +1,6 @@
 -- A protocol that lends pages: a request has four words in the page of its id, and the device replies the last of them and the first, which come back in that page.
-use Rattle.std.specs.Prelude.{ℕ, ◌-◌, Bool, true, false, ◌==◌, ◌&&◌, nat_le, List, [], ◌∷◌, length, take, slice_index_or, Option, Some, None, if◌then◌else◌}
+-- Where the host tells, they go in a message besides, too, in the page of an id of the host's own.
+use Rattle.std.specs.Prelude.{ℕ, ◌+◌, ◌-◌, ◌*◌, Bool, true, false, ◌==◌, ◌&&◌, nat_le, List, [], ◌∷◌, length, take, slice_index_or, Some, None, if◌then◌else◌}
 use Rattle.page_kept.specs.declared.item.Item.{Item}
 use Rattle.page_kept.specs.Items.{item_of}
 use Rattle.pkt_desc.specs.Packets.{kind_of, id_of}
@@ -13,6 +14,10 @@ swap_request id = 25770131465 ∷ id ∷ 4294967296 ∷ 32 ∷ (id - 1) ∷ 0 �
 
 abbrev pub swap_completion : ℕ → ℕ → List ℕ
 swap_completion id k = 12885032971 ∷ id ∷ k ∷ []
+
+-- a message of type 7, which lends 16 bytes from the start of the page of its id behind the 64 of the guest
+abbrev pub swap_message : ℕ → List ℕ
+swap_message own = 0x5_0004_0007 ∷ own ∷ 0x1_0000_cafe ∷ (16 + 0x1000_0000_0000 * (own - 1)) ∷ 0 ∷ []
 
 abbrev pub words_read : Bool → ℕ → List ℕ → List ℕ
 words_read true k ws = take k ws
@@ -28,21 +33,21 @@ back_of n = if nat_le 2 n then 2 else 0
 abbrev pub two_at : ℕ → List ℕ → Two
 two_at k ws = record { a = slice_index_or ws 0 0; b = slice_index_or ws k 0 }
 
-abbrev pub swap_format : WireFormat Item Two Two Two
-swap_format = record {
+abbrev pub swap_format : Bool → WireFormat Item Two Two Two
+swap_format tells = record {
   id_of = λ i. id_of i.packet;
   is_request = λ i. kind_of i.packet == 9;
   waits = λ i. kind_of i.packet == 9;
-  is_ack = λ i. false;
+  is_ack = λ i. kind_of i.packet == 11;
   is_answer = λ i. kind_of i.packet == 11;
-  is_message = λ i. false;
-  ack = λ i. item_of i.packet [];
+  is_message = λ i. kind_of i.packet == 7;
+  ack = λ i. item_of (swap_completion (id_of i.packet) 0) [];
   encode = λ id a. item_of (swap_request id) (a.a ∷ 5 ∷ 6 ∷ a.b ∷ []);
   has_answer = λ a. true;
   read = λ i. if kind_of i.packet == 9 then Some (two_at 3 i.words) else None;
   fixed = λ i. None;
   fits = λ q r. (q.a == r.b) && (q.b == r.a);
-  gives = λ i r. record { message = None; answer = item_of (swap_completion (id_of i.packet) (back_of (length i.words))) (take (back_of (length i.words)) (r.a ∷ r.b ∷ [])) };
+  gives = λ i r. record { message = if tells then Some (λ own. item_of (swap_message own) (r.a ∷ r.b ∷ [])) else None; answer = item_of (swap_completion (id_of i.packet) (back_of (length i.words))) (take (back_of (length i.words)) (r.a ∷ r.b ∷ [])) };
   result = λ a before i. Some (two_at 1 i.words);
 }
 

@@ -9,6 +9,8 @@ mod channel_tests;
 mod check;
 #[cfg(test)]
 mod echo;
+#[cfg(test)]
+mod message_tests;
 pub mod swap;
 #[cfg(test)]
 mod swap_tests;

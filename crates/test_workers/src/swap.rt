@@ -1,5 +1,5 @@
 //! A protocol that lends pages, and its device: a request has four words in the page of its id, and the device replies the last of them and the first, which come
-//! back in that page.
+//! back in that page. Where the host tells, a message with the reply goes before each answer, in the page of its own id.
 ghost use Rattle.std.specs.Prelude.{◌≡◌, ◌≤◌, ◌<◌, ◌+◌, ◌%◌, ◌^◌, ◌∷◌, [], length, take, map, slice_index_or, IfOk};
 ghost use Rattle.test_workers.specs.Swap.{two_at};
 
@@ -12,6 +12,16 @@ const REQUEST: u64 = 25_770_131_465;
 
 const COMPLETION: u64 = 12_885_032_971;
 
+// Of a message: its first words, of five of which the payload is the last; the receive buffer, one of whose parts is named; and the length of a part, with how much its offset
+// grows from one page to the next.
+const MESSAGE: u64 = 0x5_0004_0007;
+
+const ONE_PART: u64 = 0x1_0000_cafe;
+
+const PART: u64 = 16;
+
+const NEXT_PAGE: u64 = 0x1000_0000_0000;
+
 /// What is asked and replied: two numbers.
 #[derive(Clone, Copy, PartialEq, Eq)]
 pub struct Two {
@@ -19,11 +29,12 @@ pub struct Two {
     pub b: u64,
 }
 
-/// What one end has to ask.
+/// What one end has to ask, and whether the host tells each reply in a message.
 #[derive(Drop)]
 pub struct Swap {
     pub asks: Vec<Two>,
     pub starts: u32,
+    pub tells: bool,
     ghost few: { asks.len < 2 ^ 32 },
     ghost within: { starts ≤ length asks.items },
 }
@@ -57,7 +68,7 @@ impl Protocol for Swap {
     ghost use Rattle.std.proofs.Common.{refl};
     ghost use Rattle.pkt_desc.specs.Packets.{kind_of};
     ghost use Rattle.test_workers.specs.Swap.{swap_format, swap_said};
-    ghost use Rattle.test_workers.specs.SwapLaws.{swap_bare, swap_keeps, swap_paged, swap_silent, take_few};
+    ghost use Rattle.test_workers.specs.SwapLaws.{swap_bare, swap_keeps, swap_may, swap_paged, take_few};
 
     type Ask = Two;
 
@@ -75,17 +86,17 @@ impl Protocol for Swap {
 
     ghost said_bare = { swap_bare };
 
-    ghost format = { λ s. swap_format };
+    ghost format = { λ s. swap_format s.tells };
 
     ghost lends = { λ s. true };
 
-    ghost paged = { λ s e. swap_paged };
+    ghost paged = { λ s e. swap_paged s.tells };
 
-    ghost keeps = { λ s. swap_keeps };
+    ghost keeps = { λ s. swap_keeps s.tells };
 
-    ghost besides = { λ s. false };
+    ghost besides = { λ s. s.tells };
 
-    ghost may = { λ s. swap_silent };
+    ghost may = { λ s. swap_may s.tells };
 
     ghost asks = { λ s. s.asks.items };
 
@@ -104,7 +115,7 @@ impl Protocol for Swap {
     }
 
     fn besides(&self) -> bool {
-        false
+        self.tells
     }
 
     fn has_answer(&self, _k: u32) -> bool {
@@ -130,20 +141,21 @@ impl Protocol for Swap {
         kind(packet) == 9
     }
 
-    fn is_ack(&self, _packet: &[u64]) -> bool {
-        false
+    fn is_ack(&self, packet: &[u64]) -> bool {
+        kind(packet) == 11
     }
 
     fn is_answer(&self, packet: &[u64]) -> bool {
         kind(packet) == 11
     }
 
-    fn is_message(&self, _packet: &[u64]) -> bool {
-        false
+    fn is_message(&self, packet: &[u64]) -> bool {
+        kind(packet) == 7
     }
 
-    fn write_ack(&self, _packet: &[u64], _out: &mut [u64]) -> usize {
-        0
+    fn write_ack(&self, packet: &[u64], out: &mut [u64]) -> usize {
+        out[..3].copy_from_slice(&[COMPLETION, word(packet, 1), 0]);
+        3
     }
 
     fn head(&self, packet: &[u64], _words: &[u64]) -> Option<()> {
@@ -173,20 +185,31 @@ impl Protocol for Swap {
         0
     }
 
+    #[tactic(auto, using(crate::specs::SwapLaws::is_told))]
     fn has_message(&self, _packet: &[u64], _words: &[u64], _reply: &Two) -> bool {
-        false
+        self.tells
     }
 
     fn write_message(
         &self,
         _packet: &[u64],
         _words: &[u64],
-        _reply: &Two,
-        _own: u64,
-        _out: &mut [u64],
-        _page: &mut [u64],
+        reply: &Two,
+        own: u64,
+        out: &mut [u64],
+        page: &mut [u64],
     ) -> Written {
-        Written::bare(0)
+        if !self.tells {
+            return Written::bare(0);
+        }
+        let part = PART + NEXT_PAGE * own.saturating_sub(1);
+        out[..5].copy_from_slice(&[MESSAGE, own, ONE_PART, part, 0]);
+        page[..2].copy_from_slice(&[reply.a, reply.b]);
+        Written {
+            packet: 5,
+            words: 2,
+            lent: 2,
+        }
     }
 
     fn write_answer(

@@ -1,5 +1,5 @@
 //! Both workers of one channel over data pages, on two threads.
-ghost use Rattle.std.specs.Prelude.{◌≡◌, ◌≤◌, false};
+ghost use Rattle.std.specs.Prelude.{◌≡◌, ◌≤◌, true, false};
 ghost use Rattle.io_edge.specs.declared.side.Side.TheVariants.{Guest as GuestSide, Host as HostSide};
 ghost use Rattle.ring_seat.specs.Whole.{new_paged};
 
@@ -16,53 +16,64 @@ use worker_requester::Requester;
 use worker_server::Server;
 
 // The i-th ask.
-fn ask_at(i: u64) -> Two {
+pub(crate) fn ask_at(i: u64) -> Two {
     Two {
         a: i.wrapping_mul(3).wrapping_add(1),
         b: !i,
     }
 }
 
-// So many asks.
-fn asks(rt: &(impl Abort + AllocGlobal), n: u32) -> Swap {
+// So many asks, of a host that tells each reply in a message, or not.
+fn asks(rt: &(impl Abort + AllocGlobal), n: u32, tells: bool) -> Swap
+    ensures { result.tells ≡ tells }
+{
     let mut asks = Vec::new(rt.alloc());
     for i in 0..n {
         asks.push(ask_at(u64::from(i))).expect(rt, "memory");
     }
     check(rt, asks.len() <= 10000);
-    Swap { asks, starts: 0 }
+    Swap {
+        asks,
+        starts: 0,
+        tells,
+    }
 }
 
-// A guest's worker that asks so many, with at most `window` open, over as many data pages.
-fn asker_of(
+// A guest's worker that asks so many, with at most `window` open, over so many data pages.
+pub(crate) fn asker_of(
     rt: &(impl Abort + AllocGlobal),
     end: GuestEnd,
     count: u32,
     window: u32,
+    pages: u32,
+    tells: bool,
 ) -> Requester<Swap, TableSeat>
     requires window { (1 ≤ window) × (window ≤ 64) }
-    requires fresh { end.state ≡ new_paged 512 window GuestSide }
+    requires pages { window ≤ pages }
+    requires fresh { end.state ≡ new_paged 512 pages GuestSide }
     ensures { result.end.state.machine.marked ≡ false }
 {
-    let asks = asks(rt, count);
+    let asks = asks(rt, count, tells);
     Requester::make(rt.alloc(), asks, end, Side::Guest, 1, window).expect(rt, "memory")
 }
 
-// A host's worker that serves so many of those that come. One that stops holds the last answer.
-fn server_of(
+// A host's worker that serves so many of those that come, over so many data pages. One that stops holds the last answer.
+pub(crate) fn server_of(
     rt: &(impl Abort + AllocGlobal),
     end: HostEnd,
-    window: u32,
+    pages: u32,
     come: u32,
     serve: u32,
     stops: bool,
+    tells: bool,
 ) -> Server<Swap, SwapSeat, TableSeat>
-    requires window { 1 ≤ window }
-    requires fresh { end.state ≡ new_paged 512 window HostSide }
+    requires pages { 1 ≤ pages }
+    requires enough { tells ≡ true → 128 ≤ pages }
+    requires fresh { end.state ≡ new_paged 512 pages HostSide }
     ensures { result.end.state.machine.marked ≡ false }
 {
     let alloc = rt.alloc();
-    let protocol = asks(rt, 0);
+    let protocol = asks(rt, 0, tells);
     let seat = SwapSeat::make(alloc, serve).expect(rt, "memory");
     Server::make(
         alloc,
@@ -81,7 +92,7 @@ fn server_of(
 }
 
 // How many of these replies have the two numbers of their ask in turn.
-fn right(replies: &[Two]) -> usize {
+pub(crate) fn right(replies: &[Two]) -> usize {
     let mut count = 0_usize;
     for i in 0..replies.len() {
         let ask = ask_at(i as u64);
@@ -123,8 +134,8 @@ fn run<R: Threads + Wait + Abort + AllocGlobal + Sync>(
     requires { (1 ≤ window) × (window ≤ 64) }
 {
     let (guest, host) = ChannelMem::make(rt.alloc(), 1, window).expect(rt, "memory");
-    let asker = asker_of(rt, guest, count, window);
-    let server = server_of(rt, host, window, count, serves, stops);
+    let asker = asker_of(rt, guest, count, window, window, false);
+    let server = server_of(rt, host, window, count, serves, stops, false);
     join(
         rt,
         move ||

@@ -1,11 +1,13 @@
 -- A new end, by the side and the data pages that it has.
 use Rattle.std.proofs.Common.{◌≡◌, ◌≢◌, ◌≤◌, ℕ, true, false, Some, refl, ap, sym, subst, ◌∙◌, arith}
-use Rattle.std.specs.Prelude.{if◌then◌else◌}
 use Rattle.io_edge.specs.declared.side.Side.{Side}
-use Rattle.io_edge.specs.declared.side.Side.TheVariants.{Guest}
+use Rattle.io_edge.specs.declared.side.Side.TheVariants.{Guest, Host}
 use Rattle.contact.specs.declared.kind.DeviceKind.{DeviceKind}
 use Rattle.contact.specs.declared.kind.DeviceKind.TheVariants.{Beat, Down, Disk, Net}
 use Rattle.channel_model.specs.Roles.{side_that_asks}
+use Rattle.device_any.specs.Seats.{device_place, kind_at}
+use Rattle.device_any.specs.declared.device_seat.DeviceSeat.{DeviceSeat}
+use Rattle.device_any.specs.declared.device_seat.DeviceSeat.TheVariants.{Beat as BeatSeat, Down as DownSeat, Disk as DiskSeat, Net as NetSeat}
 use Rattle.device_formats.specs.Formats.{besides_on, lends_on}
 use Rattle.ring_core.specs.Seen.{Seen}
 use Rattle.ring_core.specs.declared.told.Told.{Told}
@@ -16,6 +18,7 @@ use Rattle.worker_port.specs.Line.{paged_end}
 use Rattle.worker_requester.specs.Asking.{FitsPages}
 use Rattle.worker_server.specs.Sheets.{TellsLawful}
 use Rattle.worker_pair.specs.Pairs.{IsNewEnd, pages_on}
+use Rattle.worker_pair.specs.Seats.{side_in}
 
 module _ (e : Seen TableSeat) (n : ℕ) (side : Side) (is : e.state ≡ paged_end n e.state.machine.cells side) where
   pub side_of : side ≡ e.state.machine.side
@@ -47,33 +50,50 @@ its_pages e side n new = ap (λ s. s.pages.count) new.3
 
 -- the pages of a channel, by its kind
 pub none_on : (kind : DeviceKind) (window : ℕ) → lends_on kind ≡ false → pages_on kind window ≡ 0
-none_on kind window none = ap (λ b. if b then window else 0) none
+none_on Beat window none = refl
+none_on Down window none = refl
+none_on Disk window none = absurd (cc)
+none_on Net window none = absurd (cc)
 
-pub each_on : (kind : DeviceKind) (window : ℕ) → lends_on kind ≡ true → pages_on kind window ≡ window
-each_on kind window lends = ap (λ b. if b then window else 0) lends
+-- there is one for each request that can be open
+pub each_on : (kind : DeviceKind) (window : ℕ) → window ≤ 64 → lends_on kind ≡ true → window ≤ pages_on kind window
+each_on Beat window few lends = absurd (cc)
+each_on Down window few lends = absurd (cc)
+each_on Disk window few lends = omega arith
+each_on Net window few lends = omega (arith, few)
 
-pub on_pages : (kind : DeviceKind) (window count : ℕ) → 1 ≤ window → count ≡ pages_on kind window → (lends_on kind ≡ false → count ≡ 0) × (lends_on kind ≡ true → count ≢ 0)
-on_pages kind window count some is = (λ none. is ∙ none_on kind window none, λ lends zero. omega (arith, some, is, each_on kind window lends, zero))
+pub on_pages : (kind : DeviceKind) (window count : ℕ) → (1 ≤ window) × (window ≤ 64) → count ≡ pages_on kind window → (lends_on kind ≡ false → count ≡ 0) × (lends_on kind ≡ true → count ≢ 0)
+on_pages kind window count some is = (λ none. is ∙ none_on kind window none, λ lends zero. omega (arith, some.0, is, each_on kind window some.1 lends, zero))
 
--- a guest asks where packets lend pages, and no messages go back besides the answers
+-- and the host's 64 behind the guest's, where it sends messages
+pub all_on : (kind : DeviceKind) (window count : ℕ) → count ≡ pages_on kind window → besides_on kind ≡ true → 128 ≤ count
+all_on Beat window count is besides = absurd (cc)
+all_on Down window count is besides = absurd (cc)
+all_on Disk window count is besides = absurd (cc)
+all_on Net window count is besides = omega (arith, is)
+
+-- a guest asks where packets lend pages, and a host serves
 pub guest_lends : (kind : DeviceKind) → lends_on kind ≡ true → side_that_asks kind ≡ Guest
 guest_lends Beat lends = absurd (cc)
 guest_lends Down lends = absurd (cc)
 guest_lends Disk lends = refl
-guest_lends Net lends = absurd (cc)
+guest_lends Net lends = refl
 
-pub alone_lends : (kind : DeviceKind) → lends_on kind ≡ true → besides_on kind ≡ false
-alone_lends Beat lends = absurd (cc)
-alone_lends Down lends = absurd (cc)
-alone_lends Disk lends = refl
-alone_lends Net lends = absurd (cc)
+host_seat : (s : DeviceSeat) → lends_on (kind_at s) ≡ true → side_in (device_place s) ≡ Host
+host_seat (BeatSeat s) lends = absurd (cc)
+host_seat (DownSeat s) lends = absurd (cc)
+host_seat (DiskSeat s) lends = refl
+host_seat (NetSeat s) lends = refl
 
-pub fits : (e : Seen TableSeat) (kind : DeviceKind) (window : ℕ) (side : Side) → e.state ≡ paged_end (pages_on kind window) e.state.machine.cells e.state.machine.side → side ≡ e.state.machine.side → side ≡ side_that_asks kind → FitsPages (lends_on kind) window e.state
-fits e kind window side is same at =
+pub host_serves : (s : DeviceSeat) (kind : DeviceKind) (side : Side) → kind_at s ≡ kind → side_in (device_place s) ≡ side → lends_on kind ≡ true → side ≡ Host
+host_serves s kind side is at lends = sym at ∙ host_seat s (ap lends_on is ∙ lends)
+
+pub fits : (e : Seen TableSeat) (kind : DeviceKind) (window : ℕ) (side : Side) → window ≤ 64 → e.state ≡ paged_end (pages_on kind window) e.state.machine.cells e.state.machine.side → side ≡ e.state.machine.side → side ≡ side_that_asks kind → FitsPages (lends_on kind) window e.state
+fits e kind window side few is same at =
     let count = ap (λ s. s.pages.count) is in
     record {
       bare = λ none. count ∙ none_on kind window none;
-      enough = λ lends. omega (arith, count, each_on kind window lends);
+      enough = λ lends. omega (arith, count, each_on kind window few lends);
       guest = λ lends. sym same ∙ (at ∙ guest_lends kind lends);
     }
 

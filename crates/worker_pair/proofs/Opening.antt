@@ -17,10 +17,12 @@ use Rattle.script_lines.specs.declared.line.Ask.{Ask}
 use Rattle.device_formats.specs.PageDisks.{IsPageAsk}
 use Rattle.device_formats.specs.Formats.{has_answer_on}
 use Rattle.device_formats.specs.ChannelScript.{ChannelScript, asks_of}
-use Rattle.device_formats.specs.Wants.{startup}
-use Rattle.device_formats.specs.declared.want.Want.{Want}
+use Rattle.device_formats.specs.Wants.{no_lists, startup}
+use Rattle.device_formats.specs.declared.buffer_lists.BufferLists.{BufferLists}
 use Rattle.device_formats.specs.declared.want.Want.TheVariants.{Starts, Script}
+use Rattle.device_formats.proofs.ChannelScriptLaws.{same_starts}
 use Rattle.device_formats.proofs.FormatLaws.{start_answers}
+use Rattle.device_formats.proofs.StartLaws.{answered_alike, net_all}
 use Rattle.worker_pair.specs.Plans.{AllCarried, silent}
 
 -- a command moves as many bytes on its channel as the script says
@@ -71,8 +73,10 @@ carried_goes kind (a ∷ asks) zero d all below = all.1
 carried_goes kind (a ∷ asks) (suc i) d all below = carried_goes kind asks i d all.2 (omega arith)
 
 -- how much a protocol has to ask
-pub asks_length : (kind : DeviceKind) (sub subs : ℕ) (asks : List Ask) (protocol : ChannelScript) → protocol ≡ record { kind = kind; sub = sub; subs = subs; asks = asks } → length (asks_of protocol) ≡ length (startup kind sub subs) + length asks
-asks_length kind sub subs asks protocol is = omega (arith, ap (λ (t : ChannelScript). length (asks_of t)) is, length-append (startup kind sub subs) (map Script asks), length-map asks Script)
+pub asks_length : (kind : DeviceKind) (sub subs : ℕ) (lists : BufferLists) (asks : List Ask) (protocol : ChannelScript) → protocol ≡ record { kind = kind; sub = sub; subs = subs; lists = lists; asks = asks }
+    → length (asks_of protocol) ≡ length (startup kind sub subs no_lists) + length asks
+asks_length kind sub subs lists asks protocol is =
+    omega (arith, ap (λ (t : ChannelScript). length (asks_of t)) is, length-append (startup kind sub subs lists) (map Script asks), length-map asks Script, same_starts kind sub subs lists no_lists)
 
 -- one more of a list that can be asked
 all_push : {A : Type 0} (P : A → Type 0) (xs : List A) (x : A) → AllByRecursion P xs → P x → AllByRecursion P (xs ++ x ∷ [])
@@ -89,16 +93,14 @@ all_more {A} P xs i x below is all here =
 disk_answers : (k : ℕ) → has_answer_on Disk (Starts k) ≡ true
 disk_answers k = start_answers Disk k
 
-answered_alike : (kind : DeviceKind) (wants : List Want) → AllByRecursion (λ a. has_answer_on kind a ≡ true) wants → length (filter (has_answer_on kind) wants) ≡ length wants
-answered_alike kind [] all = refl
-answered_alike kind (a ∷ wants) all = rw all.0 (ap suc (answered_alike kind wants all.1))
-
-pub starts_all : (kind : DeviceKind) (sub subs : ℕ) → length (filter (has_answer_on kind) (startup kind sub subs)) + silent kind sub ≡ length (startup kind sub subs)
-starts_all Beat zero subs = omega (arith, answered_alike Beat (startup Beat zero subs) (start_answers Beat 0, tt))
-starts_all Down zero subs = omega (arith, answered_alike Down (startup Down zero subs) (start_answers Down 0, tt))
-starts_all Disk zero zero = omega (arith, answered_alike Disk (startup Disk zero zero) (disk_answers 0, (disk_answers 1, (disk_answers 2, (disk_answers 3, tt)))))
-starts_all Disk zero (suc n) = omega (arith, answered_alike Disk (startup Disk zero (suc n)) (disk_answers 0, (disk_answers 1, (disk_answers 2, (disk_answers 3, (disk_answers (3 + suc n), tt))))))
-starts_all Net zero subs = refl
+pub starts_all : (kind : DeviceKind) (sub subs : ℕ) → length (filter (has_answer_on kind) (startup kind sub subs no_lists)) + silent kind sub ≡ length (startup kind sub subs no_lists)
+starts_all Beat zero subs = omega (arith, answered_alike Beat (startup Beat zero subs no_lists) (start_answers Beat 0, tt))
+starts_all Down zero subs = omega (arith, answered_alike Down (startup Down zero subs no_lists) (start_answers Down 0, tt))
+starts_all Disk zero zero = omega (arith, answered_alike Disk (startup Disk zero zero no_lists) (disk_answers 0, (disk_answers 1, (disk_answers 2, (disk_answers 3, tt)))))
+starts_all Disk zero (suc n) = omega (arith, answered_alike Disk (startup Disk zero (suc n) no_lists) (disk_answers 0, (disk_answers 1, (disk_answers 2, (disk_answers 3, (disk_answers (3 + suc n), tt))))))
+starts_all Net zero subs =
+    let all : length (filter (has_answer_on Net) (startup Net zero subs no_lists)) ≡ 4 = net_all no_lists in
+    ap (λ n. n + 1) all
 starts_all Beat (suc s) subs = refl
 starts_all Down (suc s) subs = refl
 starts_all Disk (suc s) subs = refl

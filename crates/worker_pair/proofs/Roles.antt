@@ -25,7 +25,7 @@ unstopped (Some k) e = absurd (cc)
 pub plans_agree : (p : Planned) (seat : DeviceSeat) (a : Asking ChannelScript TableSeat Reply) (s : Serving ChannelScript DeviceSeat TableSeat Ask Reply) → p.count ≡ length p.asks → AsksFor p a → ServesFor p seat s → PlansAgree a s
 plans_agree p seat a s count asked served = record {
   kind = ap (λ (t : ChannelScript). t.kind) asked.protocol ∙ sym served.answers;
-  room = omega (arith, asks_length p.kind p.sub p.subs p.asks a.protocol asked.protocol, served.come, count);
+  room = omega (arith, asks_length p.kind p.sub p.subs p.lists p.asks a.protocol asked.protocol, served.come, count);
   calls = λ go.
       let all : s.serve ≡ p.count = served.serve ∙ ap (λ k. count_of k p.count) (unstopped p.stop (sym served.stops ∙ go)) in
       omega (arith, all, count, ap (λ (t : ChannelScript). length t.asks) asked.protocol);

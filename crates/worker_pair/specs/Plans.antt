@@ -11,7 +11,8 @@ use Rattle.scsi_disk.specs.declared.request.DiskRequest.{DiskRequest}
 use Rattle.bus_script.specs.declared.outcome.Reply.{Reply}
 use Rattle.device_formats.specs.Formats.{has_answer_on}
 use Rattle.device_formats.specs.ChannelScript.{ChannelScript}
-use Rattle.device_formats.specs.Wants.{startup, IsAskable}
+use Rattle.device_formats.specs.Wants.{no_lists, startup, IsAskable}
+use Rattle.device_formats.specs.declared.buffer_lists.BufferLists.{BufferLists}
 use Rattle.chan_state.specs.declared.stop.Stop.{Stop}
 use Rattle.contact.specs.declared.kind.DeviceKind.{DeviceKind}
 use Rattle.contact.specs.declared.kind.DeviceKind.TheVariants.{Beat as BeatKind, Down as DownKind, Disk as DiskKind, Net as NetKind}
@@ -40,7 +41,7 @@ stop_of None = None
 stop_of (Some s) = Some (s.after, s.held)
 
 -- a plan of either side: the relid of the channel, the kind of the device, which of its channels this is and how many are beside the first one, how many requests are open at
--- most, how many there are, where a host stops, and which they are, where this side asks
+-- most, how many there are, the page lists of a network's buffers, where a host stops, and which they are, where this side asks
 pub record Planned : Type 0 where
   pub relid : ℕ
   pub kind : DeviceKind
@@ -48,6 +49,7 @@ pub record Planned : Type 0 where
   pub subs : ℕ
   pub window : ℕ
   pub count : ℕ
+  pub lists : BufferLists
   pub stop : Option (ℕ × Bool)
   pub asks : List Ask
 
@@ -59,13 +61,13 @@ guest_asks DiskKind disk net = map AskDisk disk
 guest_asks NetKind disk net = map AskNet net
 
 abbrev pub guest_planned : GuestPlan → Planned
-guest_planned p = record { relid = p.relid; kind = p.kind; sub = p.sub; subs = p.subs; window = p.window; count = p.count; stop = None; asks = guest_asks p.kind p.disk.items p.net.items }
+guest_planned p = record { relid = p.relid; kind = p.kind; sub = p.sub; subs = p.subs; window = p.window; count = p.count; lists = record { receive = p.receive_list; send = p.send_list }; stop = None; asks = guest_asks p.kind p.disk.items p.net.items }
 
 abbrev pub host_planned : HostPlan → Planned
-host_planned p = record { relid = p.relid; kind = p.kind; sub = p.sub; subs = p.subs; window = p.window; count = p.count; stop = stop_of p.stop; asks = map AskIc p.asks.items }
+host_planned p = record { relid = p.relid; kind = p.kind; sub = p.sub; subs = p.subs; window = p.window; count = p.count; lists = no_lists; stop = stop_of p.stop; asks = map AskIc p.asks.items }
 
 abbrev pub planned : ChannelPlan → List Ask → Planned
-planned p asks = record { relid = p.relid; kind = p.kind; sub = p.sub; subs = p.subs; window = p.window; count = p.count; stop = stop_of p.stop; asks = asks }
+planned p asks = record { relid = p.relid; kind = p.kind; sub = p.sub; subs = p.subs; window = p.window; count = p.count; lists = p.lists; stop = stop_of p.stop; asks = asks }
 
 -- a host stops where the guest asks, and holds the last answer where there is one
 abbrev pub CanStop : DeviceKind → Option (ℕ × Bool) → Type 0
@@ -94,12 +96,12 @@ abbrev pub HasSeat : Side → Planned → Option DeviceSeat → Type 0
 HasSeat side p None = side ≡ side_that_asks p.kind
 HasSeat side p (Some s) = (kind_at s ≡ p.kind) × (p.count ≤ left_at s)
 
--- a worker that asks was made for this plan: its start-up is that of the plan's channel, and its table has a place for each request that may be open
+-- a worker that asks was made for this plan: its start-up is that of the plan's channel and tells the plan's page lists, and its table has a place for each request that may be open
 pub record AsksFor (p : Planned) (w : Asking ChannelScript TableSeat Reply) : Type 0 where
   pub can : AllByRecursion (IsAskable p.kind) p.asks
-  pub protocol : w.protocol ≡ record { kind = p.kind; sub = p.sub; subs = p.subs; asks = p.asks }
+  pub protocol : w.protocol ≡ record { kind = p.kind; sub = p.sub; subs = p.subs; lists = p.lists; asks = p.asks }
   pub relid : w.relid ≡ p.relid
-  pub starts : w.starts ≡ length (startup p.kind p.sub p.subs)
+  pub starts : w.starts ≡ length (startup p.kind p.sub p.subs p.lists)
   pub window : length w.table ≡ p.window
 
 -- and one that serves, with this seat: it awaits the start-up's requests that have answers, and makes room for them all and for each request
@@ -111,8 +113,8 @@ pub record ServesFor (p : Planned) (seat : DeviceSeat) (w : Serving ChannelScrip
   pub serve : w.serve ≡ count_of p.stop p.count
   pub held : w.responder.held ≡ held_of p.stop p.count
   pub stops : w.stops ≡ is_some p.stop
-  pub starts : w.starts ≡ length (filter (has_answer_on p.kind) (startup p.kind p.sub p.subs))
-  pub come : w.starts + w.come ≡ length (startup p.kind p.sub p.subs) + p.count
+  pub starts : w.starts ≡ length (filter (has_answer_on p.kind) (startup p.kind p.sub p.subs no_lists))
+  pub come : w.starts + w.come ≡ length (startup p.kind p.sub p.subs no_lists) + p.count
 
 -- a worker was made for this plan: without a seat it asks, and with one it serves
 abbrev pub IsMade : Planned → Option DeviceSeat → Worker → Type 0

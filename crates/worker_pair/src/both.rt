@@ -33,6 +33,7 @@ fn make_roles(
     requires plan { CanPlan (side_that_asks plan.kind) (planned plan asks.items) }
     requires seat { (kind_at seat ≡ plan.kind) × (plan.count ≤ left_at seat) }
     requires at { asks_at ≡ side_that_asks plan.kind }
+    requires serves { side_that_asks plan.kind ≡ GuestSide → serves_at ≡ HostSide }
     requires asking { IsNewEnd asks_at (pages_on plan.kind plan.window) asking }
     requires serving { IsNewEnd serves_at (pages_on plan.kind plan.window) serving }
     ensures asker { IfOk result (λ r. AsksFor (planned plan asks.items) r.0) }
@@ -50,6 +51,7 @@ fn make_roles(
         plan.kind,
         sub,
         plan.subs,
+        plan.lists,
         plan.window,
         asks,
     )?;
@@ -69,7 +71,7 @@ fn by_side(guest: Worker, host: Worker) -> (GuestWorker, HostWorker)
     (GuestWorker::over(guest), HostWorker::over(host))
 }
 
-/// The guest's worker and the host's of a new channel, which has a data page for each request that can be open where its packets lend pages (`pages_on`). The one at
+/// The guest's worker and the host's of a new channel, which has the data pages of its kind (`pages_on`): a disk's one for each request that can be open, and a network's all 128. The one at
 /// the side that asks has these requests, and the other one has this seat. They take all memory that the phase needs.
 pub fn make_both(
     alloc: Global,

@@ -1,6 +1,7 @@
 //! What the workers of a channel are made for.
 use chan_state::Stop;
 use contact::DeviceKind;
+use device_formats::BufferLists;
 
 /// What the workers of a channel do in a phase, besides the requests that one of them asks.
 #[derive(Clone, Copy)]
@@ -17,6 +18,8 @@ pub struct ChannelPlan {
     pub window: u32,
     /// How many requests of the script the channel carries in the phase.
     pub count: u32,
+    /// The page lists of a network's buffers, which the guest tells.
+    pub lists: BufferLists,
     /// Where the end that serves stops, if it does before the end of the phase.
     pub stop: Option<Stop>,
 }

@@ -18,6 +18,10 @@ pub struct GuestPlan {
     pub window: u32,
     /// How many requests of the script the channel carries in the phase.
     pub count: u32,
+    /// The handle of the page list of the receive buffer, where the device is a network's adapter.
+    pub receive_list: u32,
+    /// That of the send buffer.
+    pub send_list: u32,
     /// The requests, where the guest asks a disk.
     pub disk: Vec<DiskRequest>,
     /// The messages, where the guest asks an adapter. Each that has a request id has 0 there: it goes with the id of its packet.

@@ -11,6 +11,7 @@ ghost use Rattle.worker_pair.specs.Workers.{Caused, GoesOn, IsLive, IsOfSide, Tr
 
 use crate::making::{guest_asks, make_worker};
 use crate::{ChannelPlan, GuestDone, GuestPlan, GuestSeat, Worker, WorkerDone};
+use device_formats::BufferLists;
 use io_edge::{Gate, Side};
 use ring_seat::GuestEnd;
 use std::alloc::{AllocError, Global};
@@ -60,6 +61,10 @@ impl GuestWorker {
             subs: plan.subs,
             window: plan.window,
             count: plan.count,
+            lists: BufferLists {
+                receive: plan.receive_list,
+                send: plan.send_list,
+            },
             stop: None,
         };
         let seat = seat.into_device();

@@ -11,6 +11,7 @@ ghost use Rattle.worker_pair.specs.Workers.{Caused, GoesOn, IsLive, IsOfSide, Tr
 
 use crate::making::{ic_asks, make_worker};
 use crate::{ChannelPlan, HostDone, HostPlan, HostSeat, Worker, WorkerDone};
+use device_formats::BufferLists;
 use io_edge::{Gate, Side};
 use ring_seat::HostEnd;
 use std::alloc::{AllocError, Global};
@@ -60,6 +61,7 @@ impl HostWorker {
             subs: plan.subs,
             window: plan.window,
             count: plan.count,
+            lists: BufferLists::NONE,
             stop: plan.stop,
         };
         let seat = seat.into_device();

@@ -1,5 +1,6 @@
 //! The making of a worker.
 ghost use Rattle.std.specs.Prelude.{◌≡◌, ◌≢◌, ◌≤◌, ◌+◌, false, true, length, map, filter, is_some, IfOk, None};
+ghost use Rattle.io_edge.specs.declared.side.Side.TheVariants.{Host as HostSide};
 ghost use Rattle.std.specs.List.{AllByRecursion};
 ghost use Rattle.script_lines.specs.Parts.{kind_asked};
 ghost use Rattle.script_lines.specs.Requests.{CanBeCarried, IsSent};
@@ -8,8 +9,8 @@ ghost use Rattle.script_lines.specs.WellFormed.{CanGo};
 ghost use Rattle.script_lines.specs.declared.line.Ask.{Ask as Asked};
 ghost use Rattle.script_lines.specs.declared.line.Ask.TheVariants.{Ic as AskedIc, Disk as AskedDisk, Net as AskedNet};
 ghost use Rattle.device_formats.specs.PageDisks.{IsPageAsk};
-ghost use Rattle.device_formats.specs.Formats.{has_answer_on, lends_on};
-ghost use Rattle.device_formats.specs.Wants.{startup, IsAskable};
+ghost use Rattle.device_formats.specs.Formats.{besides_on, has_answer_on, lends_on};
+ghost use Rattle.device_formats.specs.Wants.{no_lists, startup, IsAskable};
 ghost use Rattle.worker_port.specs.Line.{paged_end};
 ghost use Rattle.channel_model.specs.Roles.{side_that_asks};
 ghost use Rattle.worker_pair.specs.Pairs.{pages_on};
@@ -26,6 +27,7 @@ use chan_state::Stop;
 use channel_protocol::Protocol;
 use contact::DeviceKind;
 use device_any::DeviceSeat;
+use device_formats::BufferLists;
 use device_protocols::DeviceProtocol;
 use io_edge::Side;
 use ring_core::End;
@@ -134,7 +136,7 @@ pub(crate) fn ic_asks(alloc: Global, asks: Vec<IcAsk>) -> Result<Vec<Ask>, Alloc
     Ok(all)
 }
 
-/// A worker that asks.
+/// A worker that asks. On a network's channel it tells these page lists.
 pub(crate) fn make_asker(
     alloc: Global,
     side: Side,
@@ -143,6 +145,7 @@ pub(crate) fn make_asker(
     kind: DeviceKind,
     sub: u32,
     subs: u32,
+    lists: BufferLists,
     window: u32,
     asks: Vec<Ask>,
 ) -> Result<ChannelRequester, AllocError>
@@ -155,15 +158,15 @@ pub(crate) fn make_asker(
     requires side { side ≡ end.state.machine.side }
     requires at { side ≡ side_that_asks kind }
     ensures can { IfOk result (λ w. AllByRecursion (IsAskable kind) asks.items) }
-    ensures protocol { IfOk result (λ w. w.protocol ≡ record { kind = kind; sub = sub; subs = subs; asks = asks.items }) }
+    ensures protocol { IfOk result (λ w. w.protocol ≡ record { kind = kind; sub = sub; subs = subs; lists = lists; asks = asks.items }) }
     ensures relid { IfOk result (λ w. w.relid ≡ relid) }
-    ensures starts { IfOk result (λ w. w.starts ≡ length (startup kind sub subs)) }
+    ensures starts { IfOk result (λ w. w.starts ≡ length (startup kind sub subs lists)) }
     ensures window { IfOk result (λ w. length w.table ≡ window) }
     ensures end { IfOk result (λ w. (w.end.end.state ≡ end.state) × (w.end.end.seat ≡ end.seat)) }
     ensures live { IfOk result (λ w. w.end.state.machine.marked ≡ false) }
 {
     all_can(kind, &asks);
-    let protocol = DeviceProtocol::make(kind, sub, subs, asks);
+    let protocol = DeviceProtocol::make(kind, sub, subs, lists, asks);
     Requester::make(alloc, protocol, end, side, relid, window)
 }
 
@@ -218,17 +221,19 @@ pub(crate) fn make_server(
     requires few { count ≤ 4096 }
     requires fresh { end.state ≡ paged_end end.state.pages.count end.state.machine.cells end.state.machine.side }
     requires pages { (lends_on kind ≡ false → end.state.pages.count ≡ 0) × (lends_on kind ≡ true → end.state.pages.count ≢ 0) }
+    requires enough { besides_on kind ≡ true → 128 ≤ end.state.pages.count }
+    requires host { lends_on kind ≡ true → side ≡ HostSide }
     requires size { (512 ≤ end.state.machine.cells) × (end.state.machine.cells ≤ 16777216) }
     requires side { side ≡ end.state.machine.side }
     ensures relid { IfOk result (λ w. w.responder.relid ≡ relid) }
     ensures protocol { IfOk result (λ w. (w.responder.protocol.kind ≡ kind) × (w.responder.seat ≡ seat) × (w.responder.before ≡ served_at seat)) }
     ensures orders { IfOk result (λ w. (w.serve ≡ count_of (stop_of stop) count) × (w.responder.held ≡ held_of (stop_of stop) count) × (w.stops ≡ is_some (stop_of stop))) }
-    ensures come { IfOk result (λ w. w.starts + w.come ≡ length (startup kind sub subs) + count) }
-    ensures starts { IfOk result (λ w. w.starts ≡ length (filter (has_answer_on kind) (startup kind sub subs))) }
+    ensures come { IfOk result (λ w. w.starts + w.come ≡ length (startup kind sub subs no_lists) + count) }
+    ensures starts { IfOk result (λ w. w.starts ≡ length (filter (has_answer_on kind) (startup kind sub subs no_lists))) }
     ensures end { IfOk result (λ w. (w.end.end.state ≡ end.state) × (w.end.end.seat ≡ end.seat)) }
     ensures live { IfOk result (λ w. w.end.state.machine.marked ≡ false) }
 {
-    let protocol = DeviceProtocol::make(kind, sub, subs, Vec::new(alloc));
+    let protocol = DeviceProtocol::make(kind, sub, subs, BufferLists::NONE, Vec::new(alloc));
     let silent = count_silent(kind, sub);
     let all = protocol.starts();
     let starts = all - silent;
@@ -280,6 +285,7 @@ pub(crate) fn make_worker(
                 plan.kind,
                 sub,
                 plan.subs,
+                plan.lists,
                 plan.window,
                 asks,
             )?;

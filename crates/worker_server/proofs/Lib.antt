@@ -3,5 +3,6 @@ pub mod ResponderLaws
 pub mod OwnLaws
 pub mod ServeSteps
 pub mod PageLaws
+pub mod HomeSteps
 pub mod PageSteps
 pub mod TableLaws

@@ -1,14 +1,14 @@
 -- What is owed, as it is written and as it is read.
-use Rattle.std.proofs.Common.{◌≡◌, ℕ, ◌-◌, ◌<◌, ◌≤◌, List, [], ◌∷◌, ◌++◌, length, length-append, refl, sym, ap, ◌∙◌, subst, arith, Option, Some, None, true, false}
+use Rattle.std.proofs.Common.{◌≡◌, ℕ, ◌-◌, ◌<◌, ◌≤◌, List, [], ◌∷◌, ◌++◌, length, length-append, refl, sym, ap, ◌∙◌, subst, arith, Option, Some, None, Bool, true, false}
 use Rattle.std.specs.Prelude.{◌&&◌, drop, replicate}
 use Rattle.std.proofs.lemmas.List.{length-replicate}
 use Rattle.std.proofs.Math.Seq.{take-append_seam}
 use Rattle.page_kept.specs.declared.item.Item.{Item}
-use Rattle.channel_model.specs.WireFormat.{Back, listed, packets_in, packets_of, under_own}
+use Rattle.channel_model.specs.WireFormat.{WireFormat, Back, listed, packets_in, packets_of, under_own}
 use Rattle.channel_protocol.specs.Listed.{answer_in, message_in}
-use Rattle.channel_protocol.specs.Paged.{Lays, LaysSome}
+use Rattle.channel_protocol.specs.Paged.{Lays, LaysSome, words_lent}
 use Rattle.worker_port.specs.Owed.{LaysOn, LaysSomeOn, Written, is_nil}
-use Rattle.worker_server.specs.Sheets.{AreBare, BringBack, BringsBack, if_written, item_on, read_all, sheets_of}
+use Rattle.worker_server.specs.Sheets.{AreBare, BringBack, BringsBack, GoesBack, LendsAll, if_written, item_on, read_all, sheets_of}
 
 few_written : (p : List ℕ) (o : Written) → length (if_written p o) ≤ 1
 few_written [] o = omega arith
@@ -127,31 +127,44 @@ module _ (said : Item → Item) where
   reply_is own m a b le le' message some answer =
       read_append (sheets_of m) (sheets_of a) ∙ (λ i. some_is m (under_own own b.message) le message i ++ written_is a b.answer some le' answer i)
 
-  -- what goes back alone
-  bring_one : (p : List ℕ) (most : ℕ) (a : Written) → (0 < length p → BringsBack said most a) → BringBack said most (if_written p a)
-  bring_one [] most a h = tt
-  bring_one (w ∷ ws) most a h = h (omega arith)
+  -- the answer, and the message before it
+  both_bring : (p q : List ℕ) (most : ℕ) (m a : Written) → (0 < length p → 0 < length q) → (0 < length p → LendsAll said m) → (0 < length q → BringsBack said most a) → BringBack said most (if_written p m ++ if_written q a)
+  both_bring [] [] most m a with_answer lends brings = tt
+  both_bring [] (x ∷ ys) most m a with_answer lends brings = brings (omega arith)
+  both_bring (w ∷ ws) [] most m a with_answer lends brings = absurd (omega (arith, with_answer (omega arith)))
+  both_bring (w ∷ ws) (x ∷ ys) most m a with_answer lends brings = (lends (omega arith), brings (omega arith))
 
-  alone : (most : ℕ) (m a : Written) → m.packet ≡ [] → BringBack said most (sheets_of a) → BringBack said most (sheets_of m ++ sheets_of a)
-  alone most m a none h = subst (λ l. BringBack said most (if_written l m ++ sheets_of a)) (sym none) h
+  -- a message that is there lends all that was written for it
+  lends_all : (m : Written) (o : Option Item) → length m.words ≤ m.lent → m.lent ≡ words_lent m.packet → LaysSomeOn said m o → 0 < length m.packet → LendsAll said m
+  lends_all m None le lent h some = absurd (omega (arith, some, ap length h))
+  lends_all m (Some j) le lent h some = record { lent = lent; whole = λ i lays. h.1 i lays ∙ sym (h.1 (item_on m) (lays_on m le)) }
 
-  none_of : (own : ℕ) (m : Written) (o : Option (ℕ → Item)) → o ≡ None → LaysSomeOn said m (under_own own o) → m.packet ≡ []
-  none_of own m None e h = h
-  none_of own m (Some f) e h = absurd (cc)
+  brings_all : (most : ℕ) (a : Written) (j : Item) → length a.words ≤ a.lent → a.lent ≤ most → ((i : Item) → LaysOn a i → said i ≡ j) → ((n : ℕ) (i : Item) → a.lent ≤ n → Lays a.packet a.words n i → said i ≡ j) → BringsBack said most a
+  brings_all most a j le within value back = record { within = within; whole = λ n i more lays. back n i more lays ∙ sym (value (item_on a) (lays_on a le)) }
 
-  pub reply_back : (own most : ℕ) (m a : Written) (b : Back Item) → b.message ≡ None → LaysSomeOn said m (under_own own b.message) → length a.words ≤ a.lent → a.lent ≤ most
+  pub reply_back : (own most : ℕ) (m a : Written) (b : Back Item) → length m.words ≤ m.lent → m.lent ≡ words_lent m.packet → LaysSomeOn said m (under_own own b.message) → 0 < length a.packet → length a.words ≤ a.lent → a.lent ≤ most
       → ((i : Item) → LaysOn a i → said i ≡ b.answer) → ((n : ℕ) (i : Item) → a.lent ≤ n → Lays a.packet a.words n i → said i ≡ b.answer) → BringBack said most (sheets_of m ++ sheets_of a)
-  reply_back own most m a b none message le within value back =
-      alone most m a (none_of own m b.message none message)
-      (bring_one a.packet most a (λ some. record { within = within; whole = λ n i more lays. back n i more lays ∙ sym (value (item_on a) (lays_on a le)) }))
+  reply_back own most m a b fits lent message some le within value back =
+      both_bring m.packet a.packet most m a (λ _. some) (lends_all m (under_own own b.message) fits lent message) (λ _. brings_all most a b.answer le within value back)
 
-  pub fixed_back : (own most : ℕ) (m a : Written) (o : Option (Back Item)) → ((b : Back Item) → o ≡ Some b → b.message ≡ None) → LaysSomeOn said m (message_in own o) → (a.words ≡ []) × (a.lent ≡ 0)
+  -- where an answer is fixed, and there is a message, there is the answer too
+  answer_there : (own : ℕ) (m a : Written) (o : Option (Back Item)) → LaysSomeOn said m (message_in own o) → LaysSomeOn said a (answer_in o) → 0 < length m.packet → 0 < length a.packet
+  answer_there own m a None message value some = absurd (omega (arith, some, ap length message))
+  answer_there own m a (Some b) message value some = value.0
+
+  fixed_brings : (most : ℕ) (a : Written) (o : Option (Back Item)) → (a.words ≡ []) × (a.lent ≡ 0) → LaysSomeOn said a (answer_in o) → ((n : ℕ) → LaysSome said a.packet [] n (answer_in o)) → 0 < length a.packet → BringsBack said most a
+  fixed_brings most a None bare value back some = absurd (omega (arith, some, ap length value))
+  fixed_brings most a (Some b) bare value back some = record {
+    within = omega (arith, bare.1);
+    whole = λ n i more lays. (back n).1 i (subst (λ (l : List ℕ). Lays a.packet l n i) bare.0 lays) ∙ sym (value.1 (item_on a) (lays_on a (omega (arith, bare.1, ap length bare.0))));
+  }
+
+  pub fixed_back : (own most : ℕ) (m a : Written) (o : Option (Back Item)) → length m.words ≤ m.lent → m.lent ≡ words_lent m.packet → LaysSomeOn said m (message_in own o) → (a.words ≡ []) × (a.lent ≡ 0)
       → LaysSomeOn said a (answer_in o) → ((n : ℕ) → LaysSome said a.packet [] n (answer_in o)) → BringBack said most (sheets_of m ++ sheets_of a)
-  fixed_back own most m a None none message bare value back = alone most m a message (bring_one a.packet most a (λ some. absurd (omega (arith, some, ap length value))))
-  fixed_back own most m a (Some b) none message bare value back =
-      alone most m a (none_of own m b.message (none b refl) message)
-      (bring_one a.packet most a (λ some. record {
-        within = omega (arith, bare.1);
-        whole = λ n i more lays.
-            (back n).1 i (subst (λ (l : List ℕ). Lays a.packet l n i) bare.0 lays) ∙ sym (value.1 (item_on a) (lays_on a (omega (arith, bare.1, ap length bare.0))));
-      }))
+  fixed_back own most m a o fits lent message bare value back =
+      both_bring m.packet a.packet most m a (answer_there own m a o message value) (lends_all m (message_in own o) fits lent message) (fixed_brings most a o bare value back)
+
+-- nothing goes back where nothing is owed
+pub goes_clear : {A Q R : Type 0} (said : Item → Item) (s : WireFormat Item A Q R) (besides : Bool) (p : Item) (os : List Written) → read_all said os ≡ [] → GoesBack said s besides p os
+goes_clear said s besides p [] e = tt
+goes_clear said s besides p (o ∷ os) e = absurd (cc)

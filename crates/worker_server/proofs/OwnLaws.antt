@@ -69,7 +69,7 @@ none_requested (suc n) (suc zero) = refl
 none_requested (suc n) (suc (suc k)) = none_requested n (suc k)
 
 -- what is owed under an id
-in_append : (id : ℕ) (xs ys : List ℕ) → is_in id (xs ++ ys) ≡ (is_in id xs || is_in id ys)
+pub in_append : (id : ℕ) (xs ys : List ℕ) → is_in id (xs ++ ys) ≡ (is_in id xs || is_in id ys)
 in_append id [] ys = refl
 in_append id (x ∷ xs) ys = ap (λ b. (x == id) || b) (in_append id xs ys) ∙ or_assoc (x == id) (is_in id xs) (is_in id ys)
   where

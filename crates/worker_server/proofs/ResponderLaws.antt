@@ -6,9 +6,13 @@ use Rattle.std.proofs.lemmas.List.{append-nil, drop-append-le, drop_all, take-ap
 use Rattle.std.proofs.Math.Seq.{take-append_seam, drop-append_seam}
 use Rattle.hist_lock.specs.Seat.{Call}
 use Rattle.channel_model.specs.Amounts.{HasNoMessages, MayHaveMessages}
-use Rattle.channel_model.specs.WireFormat.{WireFormat, Keeps, Back, IsBack, listed, packets_of, packets_in, under_own}
+use Rattle.channel_model.specs.WireFormat.{WireFormat, Keeps, Back, IsBack, IsBesides, IsMessage, listed, packets_of, packets_in, under_own}
+use Rattle.channel_protocol.specs.Paged.{KeepsPages, LendsOwnPage}
+use Rattle.pkt_desc.specs.Packets.{id_of}
+use Rattle.pkt_desc.specs.Lending.{lent_of}
+use Rattle.pkt_desc.specs.declared.loan.Lent.{Lent as LentBytes}
 use Rattle.worker_port.specs.Owed.{Written}
-use Rattle.worker_server.specs.Sheets.{AnswerOne, BringBack, item_on, read_all}
+use Rattle.worker_server.specs.Sheets.{AnswersTo, BringBack, BringsBack, GoesBack, LendsAll, TellsOwn, item_on, read_all}
 use Rattle.channel_model.specs.Workers.{Owes}
 use Rattle.channel_model.proofs.Acking.{owes_nothing, owes_message, owes_answer}
 use Rattle.channel_model.proofs.Opens.{by_test}
@@ -139,38 +143,68 @@ module _ {A Q R : Type 0} (s : WireFormat Item A Q R) (keeps : Keeps s) where
       by None e = owes_nothing s (own_in rs) (own_in rs') (λ j. ap (λ t. own_in t j) (same (is ∙ ap has_message_in e)))
       by (Some b) e = owes_by (s.id_of p) own b rs rs' besides fits (fixed_back p b reads e) (sym (is ∙ ap has_message_in e)) free set same
 
-module _ {A Q R : Type 0} (s : WireFormat Item A Q R) (keeps : Keeps s) (said : Item → Item) where
-  alone_is : (own : ℕ) (b : Back Item) (m : Option (ℕ → Item)) → m ≡ None → (x : Item) → x ∷ [] ≡ listed (under_own own m) ++ b.answer ∷ [] → x ≡ b.answer
-  alone_is own b None none x e = let is : x ≡ b.answer = cc in is
-  alone_is own b (Some m) none x e = absurd (cc)
-
-  -- an answer that goes back alone
-  one_answers : (p : Item) (own : ℕ) (b : Back Item) (os : List Written) → s.waits p ≡ true → IsBack s (s.id_of p) b → b.message ≡ None → read_all said os ≡ packets_of own b → BringBack said (length p.words) os → AnswerOne said s p os
-  one_answers p own b [] waits back none read brings = tt
-  one_answers p own b (o ∷ []) waits back none read brings =
-      let is : said (item_on o) ≡ b.answer = alone_is own b b.message none (said (item_on o)) read in
-      record { waits = waits; is_answer = ap s.is_answer is ∙ back.one; same = ap s.id_of is ∙ back.same; brings = brings }
-  one_answers p own b (o ∷ q ∷ os) waits back none read brings = absurd brings
-
-  pub given_answers : (p : Item) (q : Q) (r : R) (own : ℕ) (os : List Written) → s.read p ≡ Some q → (s.gives p r).message ≡ None → read_all said os ≡ packets_of own (s.gives p r) → BringBack said (length p.words) os → AnswerOne said s p os
-  given_answers p q r own os reads none read brings =
-      let waits : s.waits p ≡ true = by_test (s.waits p) (λ e. e) (λ e. let bad : None ≡ Some q = sym (keeps.unread p e) ∙ reads in absurd (cc)) in
-      one_answers p own (s.gives p r) os waits (given_back s keeps p q r reads) none read brings
-
-  pub fixed_answers : (p : Item) (own : ℕ) (os : List Written) → s.read p ≡ None → ((b : Back Item) → s.fixed p ≡ Some b → b.message ≡ None) → read_all said os ≡ packets_in own (s.fixed p) → BringBack said (length p.words) os → AnswerOne said s p os
-  fixed_answers p own os reads none read brings = by (s.fixed p) refl
-    where
-      nothing : (os : List Written) → read_all said os ≡ [] → AnswerOne said s p os
-      nothing [] e = tt
-      nothing (o ∷ os) e = absurd (cc)
-
-      by : (o : Option (Back Item)) → s.fixed p ≡ o → AnswerOne said s p os
-      by None e = nothing os (read ∙ ap (packets_in own) e)
-      by (Some b) e =
-          let waits : s.waits p ≡ true = by_test (s.waits p) (λ w. w) (λ w. let bad : None ≡ Some b = sym (keeps.silent p w) ∙ e in absurd (cc)) in
-          one_answers p own b os waits (fixed_back s keeps p b reads e) (none b e) (read ∙ ap (packets_in own) e) brings
-
 -- where no messages go back besides the answers
 pub no_messages : {A Q R : Type 0} (s : WireFormat Item A Q R) (besides : Bool) → besides ≡ false → MayHaveMessages s besides → HasNoMessages s
 no_messages s false e may = may
 no_messages s true e may = absurd (cc)
+
+module _ {A Q R : Type 0} (s : WireFormat Item A Q R) (keeps : Keeps s) (kp : KeepsPages s) (said : Item → Item) (same : (i : Item) → (said i).packet ≡ i.packet) (besides : Bool) (may : MayHaveMessages s besides) where
+  alone_is : (own : ℕ) (b : Back Item) (m : Option (ℕ → Item)) (x : Item) → x ∷ [] ≡ listed (under_own own m) ++ b.answer ∷ [] → x ≡ b.answer
+  alone_is own b None x e = let is : x ≡ b.answer = cc in is
+  alone_is own b (Some m) x e = absurd (cc)
+
+  both_are : (own : ℕ) (b : Back Item) (m : Option (ℕ → Item)) (x y : Item) → x ∷ y ∷ [] ≡ listed (under_own own m) ++ b.answer ∷ [] → (f : ℕ → Item) × (m ≡ Some f) × (x ≡ f own) × (y ≡ b.answer)
+  both_are own b None x y e = absurd (cc)
+  both_are own b (Some f) x y e = let first : x ≡ f own = cc in let second : y ≡ b.answer = cc in (f, refl, first, second)
+
+  answers_so : (p : Item) (b : Back Item) (o : Written) → s.waits p ≡ true → IsBack s (s.id_of p) b → said (item_on o) ≡ b.answer → BringsBack said (length p.words) o → AnswersTo said s p o
+  answers_so p b o waits back is brings = record { waits = waits; is_answer = ap s.is_answer is ∙ back.one; same = ap s.id_of is ∙ back.same; brings = brings }
+
+  besides_at : (own : ℕ) (m : Option (ℕ → Item)) (f : ℕ → Item) → m ≡ Some f → IsBesides s m → IsMessage s own (f own)
+  besides_at own m f is besides = (subst (IsBesides s) is besides) own
+
+  own_at : (m : Option (ℕ → Item)) (f : ℕ → Item) → m ≡ Some f → LendsOwnPage m → (own : ℕ) (l : LentBytes) → 1 ≤ own → own ≤ 64 → lent_of (f own).packet ≡ Some l → l.page ≡ 63 + own
+  own_at m f is lends = subst LendsOwnPage is lends
+
+  -- a message goes under its own id
+  tells_so : (own : ℕ) (b : Back Item) (f : ℕ → Item) (o : Written) → own < 2 ^ 64 → besides ≡ true → b.message ≡ Some f → IsBesides s b.message → LendsOwnPage b.message → said (item_on o) ≡ f own → LendsAll said o → TellsOwn said s besides o
+  tells_so own b f o fits with_messages is message lends read all =
+      let at = besides_at own b.message f is message in
+      let packet : (f own).packet ≡ o.packet = ap (λ (i : Item). i.packet) (sym read) ∙ same (item_on o) in
+      let id : id_of o.packet ≡ own = ap id_of (sym packet) ∙ (sym (kp.ids (f own)) ∙ at.same fits) in
+      record {
+        may = with_messages;
+        message = ap s.is_message read ∙ at.message;
+        own = λ l one most e. own_at b.message f is lends own l (omega (arith, one, id)) (omega (arith, most, id)) (ap lent_of packet ∙ e) ∙ ap (λ n. 63 + n) (sym id);
+        lends = all;
+      }
+
+  -- where there is one, the channel may have them
+  with_messages : (m : Option (ℕ → Item)) (f : ℕ → Item) → m ≡ Some f → (besides ≡ false → m ≡ None) → besides ≡ true
+  with_messages m f is none = by_test besides (λ e. e) (λ e. absurd (let bad : None ≡ Some f = sym (none e) ∙ is in cc))
+
+  all_back : (p : Item) (own : ℕ) (b : Back Item) (os : List Written) → own < 2 ^ 64 → s.waits p ≡ true → IsBack s (s.id_of p) b → LendsOwnPage b.message → (besides ≡ false → b.message ≡ None) → read_all said os ≡ packets_of own b → BringBack said (length p.words) os → GoesBack said s besides p os
+  all_back p own b [] fits waits back lends none read brings = tt
+  all_back p own b (o ∷ []) fits waits back lends none read brings = answers_so p b o waits back (alone_is own b b.message (said (item_on o)) read) brings
+  all_back p own b (m ∷ o ∷ []) fits waits back lends none read brings =
+      let two = both_are own b b.message (said (item_on m)) (said (item_on o)) read in
+      (tells_so own b two.0 m fits (with_messages b.message two.0 two.1 none) two.1 back.besides lends two.2 brings.0, answers_so p b o waits back two.3 brings.1)
+  all_back p own b (m ∷ o ∷ q ∷ os) fits waits back lends none read brings = absurd brings
+
+  pub given_goes : (p : Item) (q : Q) (r : R) (own : ℕ) (os : List Written) → own < 2 ^ 64 → s.read p ≡ Some q → read_all said os ≡ packets_of own (s.gives p r) → BringBack said (length p.words) os → GoesBack said s besides p os
+  given_goes p q r own os fits reads read brings =
+      let waits : s.waits p ≡ true = by_test (s.waits p) (λ e. e) (λ e. let bad : None ≡ Some q = sym (keeps.unread p e) ∙ reads in absurd (cc)) in
+      all_back p own (s.gives p r) os fits waits (given_back s keeps p q r reads) (kp.besides p r) (λ e. (no_messages s besides e may).gives p r) read brings
+
+  pub fixed_goes : (p : Item) (own : ℕ) (os : List Written) → own < 2 ^ 64 → s.read p ≡ None → read_all said os ≡ packets_in own (s.fixed p) → BringBack said (length p.words) os → GoesBack said s besides p os
+  fixed_goes p own os fits reads read brings = by (s.fixed p) refl
+    where
+      nothing : (os : List Written) → read_all said os ≡ [] → GoesBack said s besides p os
+      nothing [] e = tt
+      nothing (o ∷ os) e = absurd (cc)
+
+      by : (o : Option (Back Item)) → s.fixed p ≡ o → GoesBack said s besides p os
+      by None e = nothing os (read ∙ ap (packets_in own) e)
+      by (Some b) e =
+          let waits : s.waits p ≡ true = by_test (s.waits p) (λ w. w) (λ w. let bad : None ≡ Some b = sym (keeps.silent p w) ∙ e in absurd (cc)) in
+          all_back p own b os fits waits (fixed_back s keeps p b reads e) (kp.fixed_besides p b e) (λ w. (no_messages s besides w may).fixed p b e) (read ∙ ap (packets_in own) e) brings

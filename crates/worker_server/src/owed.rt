@@ -93,7 +93,7 @@ impl Owed {
         ensures value { read_all T.said self.new ≡ packets_in own ((T.format protocol.now).fixed (T.said (item_of packet.now words.now))) }
         ensures few { length self.new ≤ 2 }
         ensures bare { T.lends protocol.now ≡ false → AreBare self.new }
-        ensures back { T.lends protocol.now ≡ true → T.besides protocol.now ≡ false → BringBack T.said (length (T.said (item_of packet.now words.now)).words) self.new }
+        ensures back { T.lends protocol.now ≡ true → BringBack T.said (length (T.said (item_of packet.now words.now)).words) self.new }
     {
         self.message
             .write_fixed_message(protocol, packet, words, own);
@@ -118,7 +118,7 @@ impl Owed {
         ensures value { read_all T.said self.new ≡ packets_of own ((T.format protocol.now).gives (T.said (item_of packet.now words.now)) reply.now) }
         ensures few { length self.new ≤ 2 }
         ensures bare { T.lends protocol.now ≡ false → AreBare self.new }
-        ensures back { T.lends protocol.now ≡ true → T.besides protocol.now ≡ false → BringBack T.said (length (T.said (item_of packet.now words.now)).words) self.new }
+        ensures back { T.lends protocol.now ≡ true → BringBack T.said (length (T.said (item_of packet.now words.now)).words) self.new }
     {
         self.message
             .write_message(protocol, packet, words, reply, own);

@@ -4,7 +4,7 @@ ghost use Rattle.page_kept.specs.Items.{item_of};
 ghost use Rattle.ring_machine.specs.States.{IsPacket};
 ghost use Rattle.worker_port.specs.Owed.{is_nil, need_of, IsNeed};
 ghost use Rattle.worker_port.specs.Rooms.{is_asked};
-ghost use Rattle.worker_server.specs.Sheets.{AnswerOne, AreBare, item_on, read_all};
+ghost use Rattle.worker_server.specs.Sheets.{AreBare, GoesBack, item_on, read_all};
 ghost use Rattle.worker_server.specs.Serving.{Closes, IsFull, ServesPacket, has_served, own_in};
 ghost use Rattle.txn_table.specs.Open.{HasNone};
 ghost use Rattle.channel_model.specs.Workers.{Owes};
@@ -238,7 +238,7 @@ impl<T: Protocol, S: Device<T>> Responder<T, S> {
         ensures size { length self.new.table ≡ length self.old.table }
         ensures few { length self.new.owed ≤ 2 }
         ensures bare { T.lends self.new.protocol ≡ false → AreBare self.new.sheets }
-        ensures back { T.lends self.new.protocol ≡ true → T.besides self.new.protocol ≡ false → AnswerOne T.said (T.format self.new.protocol) (T.said (item_of packet.now words.now)) self.new.sheets }
+        ensures back { T.lends self.new.protocol ≡ true → GoesBack T.said (T.format self.new.protocol) (T.besides self.new.protocol) (T.said (item_of packet.now words.now)) self.new.sheets }
         ensures same { (self.new.protocol ≡ self.old.protocol) × (self.new.held ≡ self.old.held) × S.same self.old.seat self.new.seat }
         ensures channel { (self.new.side ≡ self.old.side) × (self.new.relid ≡ self.old.relid) }
         ensures before { self.new.before ≡ self.old.before }
@@ -265,7 +265,7 @@ impl<T: Protocol, S: Device<T>> Responder<T, S> {
         ensures size { length self.new.table ≡ length self.old.table }
         ensures few { length self.new.owed ≤ 2 }
         ensures bare { T.lends self.new.protocol ≡ false → AreBare self.new.sheets }
-        ensures back { T.lends self.new.protocol ≡ true → T.besides self.new.protocol ≡ false → AnswerOne T.said (T.format self.new.protocol) (T.said (item_of packet.now words.now)) self.new.sheets }
+        ensures back { T.lends self.new.protocol ≡ true → GoesBack T.said (T.format self.new.protocol) (T.besides self.new.protocol) (T.said (item_of packet.now words.now)) self.new.sheets }
         ensures same { (self.new.protocol ≡ self.old.protocol) × (self.new.held ≡ self.old.held) × (self.new.seat ≡ self.old.seat) }
         ensures channel { (self.new.side ≡ self.old.side) × (self.new.relid ≡ self.old.relid) }
         ensures before { self.new.before ≡ self.old.before }
@@ -297,7 +297,7 @@ impl<T: Protocol, S: Device<T>> Responder<T, S> {
         ensures size { length self.new.table ≡ length self.old.table }
         ensures few { length self.new.owed ≤ 2 }
         ensures bare { T.lends self.new.protocol ≡ false → AreBare self.new.sheets }
-        ensures back { T.lends self.new.protocol ≡ true → T.besides self.new.protocol ≡ false → AnswerOne T.said (T.format self.new.protocol) (T.said (item_of packet.now words.now)) self.new.sheets }
+        ensures back { T.lends self.new.protocol ≡ true → GoesBack T.said (T.format self.new.protocol) (T.besides self.new.protocol) (T.said (item_of packet.now words.now)) self.new.sheets }
         ensures same { (self.new.protocol ≡ self.old.protocol) × (self.new.held ≡ self.old.held) × S.same self.old.seat self.new.seat }
         ensures channel { (self.new.side ≡ self.old.side) × (self.new.relid ≡ self.old.relid) }
         ensures before { self.new.before ≡ self.old.before }

@@ -7,6 +7,7 @@ ghost use Rattle.worker_port.specs.Line.{paged_end, IsLine, line_of, past_as, Fi
 ghost use Rattle.worker_port.specs.Owed.{is_nil, LacksSend, MetFull};
 ghost use Rattle.worker_port.specs.Rooms.{KeepsRoom, OnlyWith, ServeLacksFor, ServedWithin, broke, is_broken};
 ghost use Rattle.worker_server.specs.Serving.{Closes, EndsBy, EverTried, FirstFull, HasRoomFor, HasServed, HasToWait, Lacks, LacksRoom, LeavesTried, OwedTried, Turns, TurnTried, GaveOne, ServeEnds, ServesOn, BreaksOff, StandsGiven, calls_behind, has_done, lacks_call, marked_by};
+ghost use Rattle.io_edge.specs.declared.side.Side.TheVariants.{Host as HostSide};
 ghost use Rattle.worker_server.specs.Sheets.{TellsLawful};
 ghost use Rattle.worker_port.specs.Tries.{FoundNone};
 ghost use Rattle.ring_core.specs.Seen.{Seen};
@@ -87,6 +88,7 @@ impl<T: Protocol, S: Device<T>, E: Parks + Drop> Server<T, S, E> {
             };
         }
         self.port.stands_on_pages();
+        self.port.lends_what_is_closed();
         match self.port.send(sheet.packet(), sheet.page()) {
             Tried::Sent => {
                 self.responder.pop();
@@ -456,7 +458,8 @@ impl<T: Protocol, S: Device<T>, E: Parks + Drop> Server<T, S, E> {
 
     /// A worker over a new end and a seat that has as many calls left as it serves. `starts` is how many requests of the start-up have answers, `serve` how many requests of the
     /// device it serves, the answer to the last one being kept where `held`; `stops` says whether it ends then. It makes room for `starts` and `come`
-    /// requests, and for as many messages and what acknowledges them, where there are messages. It takes all its memory here.
+    /// requests, and for as many messages and what acknowledges them, where there are messages. Where packets lend data pages, the end is the host's, and with messages the channel has all 128 pages: a message lends
+    /// the page of its id behind the 64 of the guest. It takes all its memory here.
     pub fn make(
         alloc: Global,
         protocol: T,
@@ -474,7 +477,8 @@ impl<T: Protocol, S: Device<T>, E: Parks + Drop> Server<T, S, E> {
         requires calls { serve ≤ S.left seat }
         requires none { T.lends protocol ≡ false → end.state.pages.count ≡ 0 }
         requires some { T.lends protocol ≡ true → end.state.pages.count ≢ 0 }
-        requires alone { T.lends protocol ≡ true → T.besides protocol ≡ false }
+        requires host { T.lends protocol ≡ true → end.state.machine.side ≡ HostSide }
+        requires enough { T.lends protocol ≡ true → T.besides protocol ≡ true → 128 ≤ end.state.pages.count }
         requires tells { T.lends protocol ≡ true → is_some (E.told end.seat) ≡ true }
         requires lawful { T.lends protocol ≡ true → TellsLawful E.told }
         requires fresh { end.state ≡ paged_end end.state.pages.count end.state.machine.cells end.state.machine.side }

@@ -1,4 +1,4 @@
-use Rattle.std.proofs.Common.{map, ◌∙◌, ◌*◌, ap, sym, subst, length, arith}
+use Rattle.std.proofs.Common.{map, ◌∙◌, ap, sym, subst, length, arith}
 use Rattle.std.proofs.lemmas.List.{length-map}
 use Rattle.bus_plan.specs.Heard.{AllBelow}
 use Rattle.bus_plan.specs.Outcomes.{AreTold}

@@ -1,5 +1,5 @@
 use Rattle.device_formats.proofs.KindLaws as laws
-use Rattle.device_formats.proofs.NetLaws as nets
+use Rattle.device_formats.proofs.PageNetLaws as nets
 use Rattle.device_formats.proofs.PageFormatLaws as pages
 use Rattle.device_formats.proofs.laws.kinds_keep.Goals as goal
 

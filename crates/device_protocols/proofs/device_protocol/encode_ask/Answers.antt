@@ -1,6 +1,6 @@
 use Rattle.std.proofs.Common.{take, ap, ◌∙◌}
 use Rattle.device_formats.specs.Formats.{lends_on}
-use Rattle.device_protocols.proofs.BareLaws.{bare_so, disk_can, disk_encodes, disk_lends, net_bare, net_can, net_encodes, service_bare, service_encodes}
+use Rattle.device_protocols.proofs.BareLaws.{bare_so, disk_can, disk_encodes, disk_lends, net_can, net_encodes, net_lends, service_bare, service_encodes}
 use Rattle.device_protocols.proofs.device_protocol.encode_ask.Goals as goal
 
 pub returns-in-Beat-clause-value : goal.returns-in-Beat-clause-value
@@ -11,13 +11,19 @@ returns-in-Beat-clause-value c i lays =
 pub returns-in-Beat-clause-lent : goal.returns-in-Beat-clause-lent
 returns-in-Beat-clause-lent c lends = absurd (service_bare c.args.kind c.in-Beat.is lends)
 
+pub write_net_ask-requires-clause-can : goal.write_net_ask-requires-clause-can
+write_net_ask-requires-clause-can c = net_can c.args.kind c.in-Net.is c.args.ask.now c.net_request.result.now c.net_request.ensures c.requires.can
+
+pub write_net_ask-requires-clause-id : goal.write_net_ask-requires-clause-id
+write_net_ask-requires-clause-id c = c.requires.id (ap lends_on c.in-Net.is)
+
 pub returns-in-Net-clause-value : goal.returns-in-Net-clause-value
 returns-in-Net-clause-value c i lays =
-    let is = ap (λ n. take n c.write_net_ask.new.out) c.bare-in-Net.ensures.packet ∙ c.write_net_ask.ensures.packet in
-    bare_so _ _ _ i _ c.bare-in-Net.ensures.none.1 (net_encodes c.args.kind c.in-Net.is c.args.id c.args.ask.now c.net_request.result.now _ c.net_request.ensures (net_can c.args.kind c.in-Net.is c.args.ask.now c.net_request.result.now c.net_request.ensures c.requires.can) is) lays
+    let can = net_can c.args.kind c.in-Net.is c.args.ask.now c.net_request.result.now c.net_request.ensures c.requires.can in
+    c.write_net_ask.ensures.value i lays ∙ net_encodes c.args.kind c.in-Net.is c.args.id c.args.ask.now c.net_request.result.now c.net_request.ensures can
 
-pub returns-in-Net-clause-lent : goal.returns-in-Net-clause-lent
-returns-in-Net-clause-lent c lends = absurd (net_bare c.args.kind c.in-Net.is lends)
+pub returns-in-Net-clause-none : goal.returns-in-Net-clause-none
+returns-in-Net-clause-none c none = absurd (net_lends c.args.kind c.in-Net.is none)
 
 pub write_page_ask-requires-clause-can : goal.write_page_ask-requires-clause-can
 write_page_ask-requires-clause-can c = disk_can c.args.kind c.in-Disk.is c.args.ask.now c.disk_request.result.now c.disk_request.ensures c.requires.can

@@ -1,9 +1,9 @@
-use Rattle.std.proofs.Common.{take, ap, refl, ◌∙◌, arith}
+use Rattle.std.proofs.Common.{take, ap, ◌∙◌, arith}
 use Rattle.page_kept.specs.Items.{item_of}
 use Rattle.channel_protocol.specs.Paged.{bare_item}
 use Rattle.device_formats.specs.Items.{said_item}
 use Rattle.device_formats.proofs.FormatLaws.{service_answers}
-use Rattle.device_protocols.proofs.BareLaws.{bare_so, disk_answers, disk_lends, net_bare, service_bare}
+use Rattle.device_protocols.proofs.BareLaws.{bare_so, disk_answers, disk_lends, net_answers, service_bare}
 use Rattle.device_protocols.proofs.device_protocol.write_answer_on.Goals as goal
 
 pub write_service_answer-requires-clause-inband : goal.write_service_answer-requires-clause-inband
@@ -22,11 +22,17 @@ returns-in-Beat-clause-back c lends = absurd (service_bare c.args.kind c.in-Beat
 
 pub returns-in-Net-clause-value : goal.returns-in-Net-clause-value
 returns-in-Net-clause-value c i lays =
+    let f = c.requires.fits in
+    let came = said_item (item_of c.args.packet.now c.args.words.now) in
     let is = ap (λ n. take n c.write_done.new.out) c.bare-in-Net.ensures.packet ∙ c.write_done.ensures.packet in
-    bare_so _ _ _ i _ c.bare-in-Net.ensures.none.1 (ap bare_item is ∙ rw (c.in-Net.is, c.net_status.ensures) refl) lays
+    net_answers c.args.kind c.in-Net.is came i f.0 c.args.reply.now _ c.net_status.ensures f.2 (lays.packet_is ∙ is)
 
 pub returns-in-Net-clause-back : goal.returns-in-Net-clause-back
-returns-in-Net-clause-back c lends = absurd (net_bare c.args.kind c.in-Net.is lends)
+returns-in-Net-clause-back c lends n i more lays =
+    let f = c.requires.fits in
+    let came = said_item (item_of c.args.packet.now c.args.words.now) in
+    let is = ap (λ n. take n c.write_done.new.out) c.bare-in-Net.ensures.packet ∙ c.write_done.ensures.packet in
+    net_answers c.args.kind c.in-Net.is came i f.0 c.args.reply.now _ c.net_status.ensures f.2 (lays.packet_is ∙ is)
 
 pub returns-in-Disk-clause-value : goal.returns-in-Disk-clause-value
 returns-in-Disk-clause-value c i lays =

@@ -5,9 +5,8 @@ use Rattle.page_kept.specs.Items.{item_of}
 use Rattle.device_formats.specs.Codecs.{fixed_back}
 use Rattle.device_formats.specs.Formats.{format_of}
 use Rattle.device_formats.specs.Items.{said_item}
-use Rattle.device_formats.specs.Nets.{net_fixed}
 use Rattle.device_formats.specs.Services.{service_codec}
-use Rattle.device_protocols.proofs.BareLaws.{answer_so, net_bare, service_bare, service_goes}
+use Rattle.device_protocols.proofs.BareLaws.{answer_so, service_bare, service_goes}
 use Rattle.device_protocols.proofs.device_protocol.write_fixed_on.Goals as goal
 
 pub returns-in-Beat-clause-value : goal.returns-in-Beat-clause-value
@@ -33,8 +32,9 @@ returns-in-Disk-clause-back c lends n =
 pub returns-in-Net-clause-value : goal.returns-in-Net-clause-value
 returns-in-Net-clause-value c =
     let i = said_item (item_of c.args.packet.now c.args.words.now) in
-    let p = take c.write_net_fixed.result c.write_net_fixed.new.out in
-    subst (λ k. LaysSome said_item p [] 0 (answer_in ((format_of k).fixed i))) (sym c.in-Net.is) (answer_so p [] 0 (net_fixed c.args.packet.now) refl c.write_net_fixed.ensures.value)
+    subst (λ k. LaysSome said_item (take c.write_net_fixed.result c.write_net_fixed.new.out) [] 0 (answer_in ((format_of k).fixed i))) (sym c.in-Net.is) (c.write_net_fixed.ensures.value 0)
 
 pub returns-in-Net-clause-back : goal.returns-in-Net-clause-back
-returns-in-Net-clause-back c lends = absurd (net_bare c.args.kind c.in-Net.is lends)
+returns-in-Net-clause-back c lends n =
+    let i = said_item (item_of c.args.packet.now c.args.words.now) in
+    subst (λ k. LaysSome said_item (take c.write_net_fixed.result c.write_net_fixed.new.out) [] n (answer_in ((format_of k).fixed i))) (sym c.in-Net.is) (c.write_net_fixed.ensures.value n)

@@ -1,5 +1,5 @@
 -- A read and a write of at most 8 blocks go through their channel.
-use Rattle.std.proofs.Common.{◌≡◌, ◌≤◌, ◌*◌, ℕ, List, length, Option, Some, refl, subst, arith}
+use Rattle.std.proofs.Common.{◌≡◌, ◌≤◌, ◌*◌, ℕ, List, length, Some, refl, subst, arith}
 use Rattle.std.specs.Prelude.{IsSome}
 use Rattle.scsi_disk.specs.Commands.{command_of}
 use Rattle.scsi_disk.specs.declared.command.Command.TheVariants.{Read, Write}

@@ -7,4 +7,4 @@ pub make-requires-clause-fresh : goal.make-requires-clause-fresh
 make-requires-clause-fresh c = c.requires.fresh ∙ ap (λ n. paged_end n c.args.end.state.machine.cells c.args.end.state.machine.side) (sym (ap (λ s. s.pages.count) c.requires.fresh))
 
 pub make-requires-clause-pages : goal.make-requires-clause-pages
-make-requires-clause-pages c = rw (c.make-protocol.ensures) (fits c.args.end c.args.kind c.args.window c.args.side c.requires.fresh c.requires.side c.requires.at)
+make-requires-clause-pages c = rw (c.make-protocol.ensures) (fits c.args.end c.args.kind c.args.window c.args.side c.requires.window.1 c.requires.fresh c.requires.side c.requires.at)

@@ -1,9 +1,10 @@
 use Rattle.std.proofs.Common.{◌≡◌, ◌∙◌, ap, arith, length, refl, sym}
 use Rattle.device_formats.specs.ChannelScript.{ChannelScript}
-use Rattle.device_formats.specs.Formats.{lends_on}
-use Rattle.device_formats.specs.Wants.{startup}
+use Rattle.device_formats.specs.Formats.{besides_on, lends_on}
+use Rattle.device_formats.specs.Wants.{no_lists, startup}
+use Rattle.device_formats.proofs.ChannelScriptLaws.{same_starts}
 use Rattle.worker_pair.proofs.Opening.{starts_all, if_ok}
-use Rattle.worker_pair.proofs.NewEnds.{alone_lends, lawful_seats}
+use Rattle.worker_pair.proofs.NewEnds.{lawful_seats}
 use Rattle.worker_pair.proofs.making.make_server.Goals as goal
 
 pub make-requires-clause-none : goal.make-requires-clause-none
@@ -12,8 +13,11 @@ make-requires-clause-none c lends = c.requires.pages.0 (ap (λ (t : ChannelScrip
 pub make-requires-clause-some : goal.make-requires-clause-some
 make-requires-clause-some c lends = c.requires.pages.1 (ap (λ (t : ChannelScript). lends_on t.kind) (sym c.make-protocol.ensures) ∙ lends)
 
-pub make-requires-clause-alone : goal.make-requires-clause-alone
-make-requires-clause-alone c lends = alone_lends c.make-protocol.result.kind lends
+pub make-requires-clause-host : goal.make-requires-clause-host
+make-requires-clause-host c lends = sym c.requires.side ∙ c.requires.host (ap (λ (t : ChannelScript). lends_on t.kind) (sym c.make-protocol.ensures) ∙ lends)
+
+pub make-requires-clause-enough : goal.make-requires-clause-enough
+make-requires-clause-enough c lends besides = c.requires.enough (ap (λ (t : ChannelScript). besides_on t.kind) (sym c.make-protocol.ensures) ∙ besides)
 
 pub make-requires-clause-tells : goal.make-requires-clause-tells
 make-requires-clause-tells c lends = refl
@@ -23,15 +27,18 @@ make-requires-clause-lawful c lends = lawful_seats
 
 pub overflow_sub-starts : goal.overflow_sub-starts
 overflow_sub-starts c =
-    let count : c.starts-all.result ≡ length (startup c.args.kind c.args.sub c.args.subs) = c.starts-all.ensures ∙ ap (λ (t : ChannelScript). length (startup t.kind t.sub t.subs)) c.make-protocol.ensures in
+    let t = c.make-protocol.result in
+    let count : c.starts-all.result ≡ length (startup c.args.kind c.args.sub c.args.subs no_lists) = c.starts-all.ensures ∙ (same_starts t.kind t.sub t.subs t.lists no_lists ∙ ap (λ (x : ChannelScript). length (startup x.kind x.sub x.subs no_lists)) c.make-protocol.ensures) in
     omega (arith, count, c.count_silent-silent.ensures.value, starts_all c.args.kind c.args.sub c.args.subs)
 
 pub returns-clause-starts : goal.returns-clause-starts
 returns-clause-starts c =
-    let count : c.starts-all.result ≡ length (startup c.args.kind c.args.sub c.args.subs) = c.starts-all.ensures ∙ ap (λ (t : ChannelScript). length (startup t.kind t.sub t.subs)) c.make-protocol.ensures in
+    let t = c.make-protocol.result in
+    let count : c.starts-all.result ≡ length (startup c.args.kind c.args.sub c.args.subs no_lists) = c.starts-all.ensures ∙ (same_starts t.kind t.sub t.subs t.lists no_lists ∙ ap (λ (x : ChannelScript). length (startup x.kind x.sub x.subs no_lists)) c.make-protocol.ensures) in
     if_ok _ _ c.make.result (λ w is. omega (arith, is.3, count, c.count_silent-silent.ensures.value, starts_all c.args.kind c.args.sub c.args.subs)) c.make.ensures.orders
 
 pub returns-clause-come : goal.returns-clause-come
 returns-clause-come c =
-    let count : c.starts-all.result ≡ length (startup c.args.kind c.args.sub c.args.subs) = c.starts-all.ensures ∙ ap (λ (t : ChannelScript). length (startup t.kind t.sub t.subs)) c.make-protocol.ensures in
+    let t = c.make-protocol.result in
+    let count : c.starts-all.result ≡ length (startup c.args.kind c.args.sub c.args.subs no_lists) = c.starts-all.ensures ∙ (same_starts t.kind t.sub t.subs t.lists no_lists ∙ ap (λ (x : ChannelScript). length (startup x.kind x.sub x.subs no_lists)) c.make-protocol.ensures) in
     if_ok _ _ c.make.result (λ w is. omega (arith, is.3, is.4, count, c.count_silent-silent.ensures.value, starts_all c.args.kind c.args.sub c.args.subs)) c.make.ensures.orders

@@ -12,6 +12,7 @@ use Rattle.bus_run.specs.Settings.{HasLimits}
 use Rattle.bus_run.specs.Whole.{IsThis, specs_of, parts_left, behind}
 use Rattle.bus_run.proofs.SettingLines.{have_limits}
 use Rattle.bus_run.proofs.Phases.{the_phase, next_phase, right_drop, right_take, go_drop, go_take, this_phase, part_next, all_few, count_parts, go_on, no_next}
+use Rattle.bus_run.proofs.Told.{all_told}
 use Rattle.bus_run.proofs.runner.Runner.run_next.Goals as goal
 
 pub unreachable-requires : goal.unreachable-requires
@@ -93,9 +94,10 @@ returns-clause-so_far g c =
     let before = c.deref_mut.ensures.value in
     let whole = with_items_is old.ended c.run_script_phase.new.ended (search (rules, places)) in
     let ran = c.in_ok-run_script_phase.ensures in
-    go_on lines part old _ at next c.requires.so_far c.lines.ensures.script c.in-Some.is split within
+    let posted = all_told lines old.phase c.args.path.now c.requires.open in
+    go_on lines part c.args.path.now.guest.posted old _ at next posted.said posted.planned c.requires.so_far c.lines.ensures.script c.in-Some.is split within
     (λ p this. ran.ran p (subst (λ e. IsThis old.version.0 old.phase part e (specs_of old.boxes.items) old.relid p) (sym before) this))
     (λ p this. ran.relid p (subst (λ e. IsThis old.version.0 old.phase part e (specs_of old.boxes.items) old.relid p) (sym before) this)) ran.few
     (λ earlier marked. subst (AreEnded (earlier ++ part)) (sym whole) (ran.ended earlier (subst (AreEnded earlier) (sym before) marked)))
     (ap length whole ∙ ran.count ∙ ap length before) ran.ready refl c.behind-self.ensures refl refl
-    (λ p this. subst (λ s. HaveWorked s p old.settled.items c.run_script_phase.new.settled.items old.work.items c.run_script_phase.new.work.items) c.deref.ensures.value (ran.worked p (subst (λ e. IsThis old.version.0 old.phase part e (specs_of old.boxes.items) old.relid p) (sym before) this)))
+    (λ p this. subst (λ s. HaveWorked c.args.path.now.guest.posted s p old.settled.items c.run_script_phase.new.settled.items old.work.items c.run_script_phase.new.work.items) c.deref.ensures.value (ran.worked p (subst (λ e. IsThis old.version.0 old.phase part e (specs_of old.boxes.items) old.relid p) (sym before) this)))

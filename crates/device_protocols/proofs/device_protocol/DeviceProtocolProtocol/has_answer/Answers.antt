@@ -7,16 +7,16 @@ use Rattle.device_protocols.proofs.device_protocol.DeviceProtocolProtocol.has_an
 
 pub returns-then-k-count_starts : goal.returns-then-k-count_starts
 returns-then-k-count_starts c a h =
-    let t : ChannelScript = record { kind = c.self.inside.kind; sub = c.self.inside.sub; subs = c.self.inside.subs; asks = c.self.inside.asks.items } in
-    let P : ChannelScript → Type 0 = λ x. slice_get (asks_of x) c.args.k ≡ Some a → has_answer_on x.kind a ≡ start_answered x.kind (step_at x.subs c.args.k) in
+    let t : ChannelScript = record { kind = c.self.inside.kind; sub = c.self.inside.sub; subs = c.self.inside.subs; lists = c.self.inside.lists; asks = c.self.inside.asks.items } in
+    let P : ChannelScript → Type 0 = λ x. slice_get (asks_of x) c.args.k ≡ Some a → has_answer_on x.kind a ≡ start_answered x.kind (step_at x.kind x.subs x.lists c.args.k) in
     let same : t ≡ c.args.self.now = c.self.view_is in
-    let says = subst P same (start_waits_at t c.self.invariant.0 c.args.k a (omega (arith, c.if-k-count_starts.true, c.count_starts.ensures.value))) h in
-    c.start_answered.ensures ∙ ap (start_answered c.self.inside.kind) c.step_at.ensures ∙ ap (λ (x : ChannelScript). start_answered x.kind (step_at x.subs c.args.k)) same ∙ sym says
+    let says = subst P same (start_waits_at t c.self.invariant.0 c.args.k a (omega (arith, c.if-k-count_starts.true, c.count_starts.ensures.value c.self.inside.lists))) h in
+    c.start_answered.ensures c.self.inside.subs c.self.inside.lists ∙ (ap (λ (x : ChannelScript). start_answered x.kind (step_at x.kind x.subs x.lists c.args.k)) same ∙ sym says)
 
 pub returns : goal.returns
 returns c a h =
-    let t : ChannelScript = record { kind = c.self.inside.kind; sub = c.self.inside.sub; subs = c.self.inside.subs; asks = c.self.inside.asks.items } in
+    let t : ChannelScript = record { kind = c.self.inside.kind; sub = c.self.inside.sub; subs = c.self.inside.subs; lists = c.self.inside.lists; asks = c.self.inside.asks.items } in
     let P : ChannelScript → Type 0 = λ x. slice_get (asks_of x) c.args.k ≡ Some a → has_answer_on x.kind a ≡ true in
     let same : t ≡ c.args.self.now = c.self.view_is in
-    let says = subst P same (script_waits_at t c.self.invariant.0 c.args.k a (omega (arith, c.if-k-count_starts.false, c.count_starts.ensures.value))) h in
+    let says = subst P same (script_waits_at t c.self.invariant.0 c.args.k a (omega (arith, c.if-k-count_starts.false, c.count_starts.ensures.value c.self.inside.lists))) h in
     sym says

@@ -1,4 +1,4 @@
-use Rattle.std.proofs.Common.{◌≡◌, refl, ap, ◌∙◌}
+use Rattle.std.proofs.Common.{◌≡◌, ap, ◌∙◌}
 use Rattle.page_kept.specs.Items.{item_of}
 use Rattle.channel_protocol.specs.Listed.{has_message_in}
 use Rattle.device_formats.specs.Formats.{format_of}
@@ -8,7 +8,7 @@ use Rattle.device_protocols.proofs.device_protocol.DeviceProtocolProtocol.has_fi
 
 pub returns : goal.returns
 returns c =
-    let t : ChannelScript = record { kind = c.self.inside.kind; sub = c.self.inside.sub; subs = c.self.inside.subs; asks = c.self.inside.asks.items } in
+    let t : ChannelScript = record { kind = c.self.inside.kind; sub = c.self.inside.sub; subs = c.self.inside.subs; lists = c.self.inside.lists; asks = c.self.inside.asks.items } in
     let v : t ≡ c.args.self.now = c.self.view_is in
-    let i = said_item (item_of c.args.packet.now c.args._words.now) in
-    c.has_fixed_message_on.ensures i refl ∙ ap (λ (x : ChannelScript). has_message_in ((format_of x.kind).fixed i)) v
+    let i = said_item (item_of c.args.packet.now c.args.words.now) in
+    c.has_fixed_message_on.ensures ∙ ap (λ (x : ChannelScript). has_message_in ((format_of x.kind).fixed i)) v

@@ -7,7 +7,7 @@ use Rattle.device_protocols.proofs.device_protocol.DeviceProtocolProtocol.has_me
 
 pub returns : goal.returns
 returns c =
-    let t : ChannelScript = record { kind = c.self.inside.kind; sub = c.self.inside.sub; subs = c.self.inside.subs; asks = c.self.inside.asks.items } in
+    let t : ChannelScript = record { kind = c.self.inside.kind; sub = c.self.inside.sub; subs = c.self.inside.subs; lists = c.self.inside.lists; asks = c.self.inside.asks.items } in
     let v : t ≡ c.args.self.now = c.self.view_is in
     let i = said_item (item_of c.args._packet.now c.args._words.now) in
     c.has_message_on.ensures i ∙ ap (λ (x : ChannelScript). is_some ((format_of x.kind).gives i c.args.reply.now).message) v

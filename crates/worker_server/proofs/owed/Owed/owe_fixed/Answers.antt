@@ -1,7 +1,6 @@
 use Rattle.std.proofs.Common.{length, ap, arith}
 use Rattle.page_kept.specs.Items.{item_of}
 use Rattle.worker_server.proofs.OwedLaws.{both_bare, both_few, fixed_back, fixed_is}
-use Rattle.worker_server.proofs.ResponderLaws.{no_messages}
 use Rattle.worker_server.proofs.owed.Owed.owe_fixed.Goals as goal
 
 pub returns-clause-value : goal.returns-clause-value
@@ -16,9 +15,8 @@ pub returns-clause-bare : goal.returns-clause-bare
 returns-clause-bare g c = λ none. both_bare c.write_fixed_message.new.self c.write_fixed.new.self (c.write_fixed_message.ensures.none none) c.write_fixed.ensures.none
 
 pub returns-clause-back : goal.returns-clause-back
-returns-clause-back g c = λ lends alone.
+returns-clause-back g c = λ lends.
     let t = c.args.protocol.now in
     let s = g.T.Protocol.format t in
     let p = g.T.Protocol.said (item_of c.args.packet.now c.args.words.now) in
-    let no = no_messages s (g.T.Protocol.besides t) alone (g.T.Protocol.may t) in
-    fixed_back g.T.Protocol.said c.args.own _ c.write_fixed_message.new.self c.write_fixed.new.self (s.fixed p) (λ b e. no.fixed p b e) c.write_fixed_message.ensures.value c.write_fixed.ensures.none c.write_fixed.ensures.value (c.write_fixed.ensures.back lends)
+    fixed_back g.T.Protocol.said c.args.own _ c.write_fixed_message.new.self c.write_fixed.new.self (s.fixed p) c.write_fixed_message.ensures.fits (c.write_fixed_message.ensures.lent lends) c.write_fixed_message.ensures.value c.write_fixed.ensures.none c.write_fixed.ensures.value (c.write_fixed.ensures.back lends)

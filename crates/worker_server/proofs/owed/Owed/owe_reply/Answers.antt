@@ -1,7 +1,6 @@
 use Rattle.std.proofs.Common.{arith}
 use Rattle.page_kept.specs.Items.{item_of}
 use Rattle.worker_server.proofs.OwedLaws.{both_bare, both_few, reply_back, reply_is}
-use Rattle.worker_server.proofs.ResponderLaws.{no_messages}
 use Rattle.worker_server.proofs.owed.Owed.owe_reply.Goals as goal
 
 pub returns-clause-value : goal.returns-clause-value
@@ -16,9 +15,8 @@ pub returns-clause-bare : goal.returns-clause-bare
 returns-clause-bare g c = λ none. both_bare c.write_message.new.self c.write_answer.new.self (c.write_message.ensures.none none) (c.write_answer.ensures.none none)
 
 pub returns-clause-back : goal.returns-clause-back
-returns-clause-back g c = λ lends alone.
+returns-clause-back g c = λ lends.
     let t = c.args.protocol.now in
     let s = g.T.Protocol.format t in
     let p = g.T.Protocol.said (item_of c.args.packet.now c.args.words.now) in
-    let no = no_messages s (g.T.Protocol.besides t) alone (g.T.Protocol.may t) in
-    reply_back g.T.Protocol.said c.args.own _ c.write_message.new.self c.write_answer.new.self (s.gives p c.args.reply.now) (no.gives p c.args.reply.now) c.write_message.ensures.value c.write_answer.ensures.fits c.write_answer.ensures.within c.write_answer.ensures.value (c.write_answer.ensures.back lends)
+    reply_back g.T.Protocol.said c.args.own _ c.write_message.new.self c.write_answer.new.self (s.gives p c.args.reply.now) c.write_message.ensures.fits (c.write_message.ensures.lent lends) c.write_message.ensures.value (omega (arith, c.write_answer.ensures.packet.two)) c.write_answer.ensures.fits c.write_answer.ensures.within c.write_answer.ensures.value (c.write_answer.ensures.back lends)

@@ -3,7 +3,7 @@ use Rattle.page_kept.specs.Items.{item_of}
 use Rattle.channel_model.specs.Workers.{Owes}
 use Rattle.worker_server.specs.Serving.{own_in}
 use Rattle.worker_server.specs.Sheets.{read_all}
-use Rattle.worker_server.proofs.ResponderLaws.{fixed_answers, no_messages, serves_fixed, owes_fixed}
+use Rattle.worker_server.proofs.ResponderLaws.{fixed_goes, serves_fixed, owes_fixed}
 use Rattle.worker_server.proofs.responder.Responder.serve_fixed.Goals as goal
 
 pub returns-clause-serves : goal.returns-clause-serves
@@ -23,10 +23,9 @@ returns-clause-owes g c =
     (subst (λ l. Owes s l (own_in c.self.inside.table) (own_in c.open_own-own.new.table)) (sym c.owe_fixed.ensures.value) owes)
 
 pub returns-clause-back : goal.returns-clause-back
-returns-clause-back g c = λ lends alone.
+returns-clause-back g c = λ lends.
     let v = c.self.view_is in
     let t = c.self.inside.protocol in
     let s = g.T.Protocol.format t in
     let p = g.T.Protocol.said (item_of c.args.packet.now c.args.words.now) in
-    let no = no_messages s (g.T.Protocol.besides t) alone (g.T.Protocol.may t) in
-    fixed_answers s (g.T.Protocol.keeps t) g.T.Protocol.said p c.open_own-own.result c.owe_fixed.new.self (ap (λ d. (g.T.Protocol.format d.protocol).read p) v ∙ c.requires.reads) (λ b e. no.fixed p b e) c.owe_fixed.ensures.value (c.owe_fixed.ensures.back lends alone)
+    fixed_goes s (g.T.Protocol.keeps t) (g.T.Protocol.paged t lends) g.T.Protocol.said g.T.Protocol.said_packet (g.T.Protocol.besides t) (g.T.Protocol.may t) p c.open_own-own.result c.owe_fixed.new.self c.open_own-own.ensures.fits (ap (λ d. (g.T.Protocol.format d.protocol).read p) v ∙ c.requires.reads) c.owe_fixed.ensures.value (c.owe_fixed.ensures.back lends)

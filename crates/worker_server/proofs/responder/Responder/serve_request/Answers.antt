@@ -4,8 +4,8 @@ use Rattle.channel_model.specs.Workers.{Owes}
 use Rattle.worker_server.specs.Serving.{own_in}
 use Rattle.worker_server.specs.Sheets.{read_all}
 use Rattle.hist_lock.specs.Seat.{Call}
-use Rattle.worker_server.proofs.OwedLaws.{bare_clear}
-use Rattle.worker_server.proofs.ResponderLaws.{value_of, calls_grow, given_answers, no_messages, given_back, owes_by, serves_past, serves_held, serves_given}
+use Rattle.worker_server.proofs.OwedLaws.{bare_clear, goes_clear}
+use Rattle.worker_server.proofs.ResponderLaws.{value_of, calls_grow, given_goes, given_back, owes_by, serves_past, serves_held, serves_given}
 use Rattle.worker_server.proofs.responder.Responder.serve_request.Goals as goal
 
 pub returns-then-count-eq0-clause-serves : goal.returns-then-count-eq0-clause-serves
@@ -44,15 +44,22 @@ returns-clause-owes g c =
     (subst (λ l. Owes s l (own_in c.self.inside.table) (own_in c.open_own-own.new.table)) (sym c.owe_reply.ensures.value) owes)
 
 pub returns-clause-back : goal.returns-clause-back
-returns-clause-back g c = λ lends alone.
+returns-clause-back g c = λ lends.
     let t = c.self.inside.protocol in
     let s = g.T.Protocol.format t in
     let p = g.T.Protocol.said (item_of c.args.packet.now c.args.words.now) in
-    let no = no_messages s (g.T.Protocol.besides t) alone (g.T.Protocol.may t) in
-    given_answers s (g.T.Protocol.keeps t) g.T.Protocol.said p c.read-request.result c.call-serial.result.1 c.open_own-own.result c.owe_reply.new.self c.read-request.ensures (no.gives p c.call-serial.result.1) c.owe_reply.ensures.value (c.owe_reply.ensures.back lends alone)
+    given_goes s (g.T.Protocol.keeps t) (g.T.Protocol.paged t lends) g.T.Protocol.said g.T.Protocol.said_packet (g.T.Protocol.besides t) (g.T.Protocol.may t) p c.read-request.result c.call-serial.result.1 c.open_own-own.result c.owe_reply.new.self c.open_own-own.ensures.fits c.read-request.ensures c.owe_reply.ensures.value (c.owe_reply.ensures.back lends)
 
 pub returns-then-count-eq0-clause-bare : goal.returns-then-count-eq0-clause-bare
 returns-then-count-eq0-clause-bare g c = λ none. bare_clear g.T.Protocol.said c.self.inside.owed (ap (λ d. d.owed) c.self.view_is ∙ c.requires.owed)
 
 pub returns-then-is_held_back-clause-bare : goal.returns-then-is_held_back-clause-bare
 returns-then-is_held_back-clause-bare g c = λ none. bare_clear g.T.Protocol.said c.self.inside.owed (ap (λ d. d.owed) c.self.view_is ∙ c.requires.owed)
+
+pub returns-then-count-eq0-clause-back : goal.returns-then-count-eq0-clause-back
+returns-then-count-eq0-clause-back g c = λ lends.
+    goes_clear g.T.Protocol.said (g.T.Protocol.format c.self.inside.protocol) (g.T.Protocol.besides c.self.inside.protocol) (g.T.Protocol.said (item_of c.args.packet.now c.args.words.now)) c.self.inside.owed (ap (λ d. d.owed) c.self.view_is ∙ c.requires.owed)
+
+pub returns-then-is_held_back-clause-back : goal.returns-then-is_held_back-clause-back
+returns-then-is_held_back-clause-back g c = λ lends.
+    goes_clear g.T.Protocol.said (g.T.Protocol.format c.self.inside.protocol) (g.T.Protocol.besides c.self.inside.protocol) (g.T.Protocol.said (item_of c.args.packet.now c.args.words.now)) c.self.inside.owed (ap (λ d. d.owed) c.self.view_is ∙ c.requires.owed)

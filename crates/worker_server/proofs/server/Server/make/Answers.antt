@@ -1,4 +1,4 @@
-use Rattle.std.proofs.Common.{None, false, is_some, ◌≡◌, ◌+◌, refl, ap, sym, ◌∙◌, subst}
+use Rattle.std.proofs.Common.{arith, None, false, is_some, ◌≡◌, ◌+◌, refl, ap, sym, ◌∙◌, subst}
 use Rattle.worker_port.specs.Rooms.{KeepsRoom}
 use Rattle.channel_model.specs.Amounts.{room_of}
 use Rattle.worker_server.proofs.ServeSteps.{new_kept}
@@ -29,6 +29,6 @@ invariant_of-result g c =
         served = 0;
         seen = false;
         want = None;
-      })) (sym d) (pages_new g.E.Seatlike.told g.T.Protocol.said g.T.Protocol.format g.T.Protocol.lends g.T.Protocol.besides _ refl (λ l. count ∙ c.requires.none l) (λ l z. c.requires.some l (sym count ∙ z)) c.requires.alone (λ l. ap (λ z. is_some (g.E.Seatlike.told z)) c.in-Ok.ensures.end.2 ∙ c.requires.tells l) c.requires.lawful);
+      })) (sym d) (pages_new g.E.Seatlike.told g.T.Protocol.said g.T.Protocol.format g.T.Protocol.lends g.T.Protocol.besides _ refl e.0 (λ l. count ∙ c.requires.none l) (λ l z. c.requires.some l (sym count ∙ z)) (λ l. ap (λ s. s.machine.side) c.in-Ok.ensures.end.0 ∙ c.requires.host l) (λ l b. omega (arith, count, c.requires.enough l b)) (λ l. ap (λ z. is_some (g.E.Seatlike.told z)) c.in-Ok.ensures.end.2 ∙ c.requires.tells l) c.requires.lawful c.in-Ok.ensures.home);
       side = ap (λ d. d.side) d ∙ (c.requires.side ∙ sym (ap (λ m. m.side) e.2));
     }

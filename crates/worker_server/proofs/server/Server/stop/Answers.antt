@@ -7,6 +7,7 @@ use Rattle.worker_server.specs.Serving.{has_done}
 use Rattle.worker_server.proofs.OwnLaws.{none_requested}
 use Rattle.worker_server.proofs.ServeSteps.{done_parts, marked_by_protocol, ends_gone, room_gone, calls_each, marks_stopped, marks_answered, ends_by, lacks_none, tried_by, tried_gone}
 use Rattle.worker_port.proofs.RoomLaws.{room_quiet, got_same, served_marked, served_so_far}
+use Rattle.channel_model.specs.Acks.{own_open}
 use Rattle.worker_server.proofs.PageSteps.{pages_quiet}
 use Rattle.worker_server.proofs.server.Server.stop.Goals as goal
 
@@ -16,7 +17,7 @@ invariant_of-self g c =
       live = marked_by_protocol g.T.Protocol.format g.T.Protocol.keeps g.T.Protocol.besides _ _ c.rescind_all.new.self c.mark.ensures.past c.mark.ensures.lists.0 c.mark.ensures.awake c.mark.ensures.marked c.rescind_all.ensures.same c.self.invariant.live;
       room = subst (λ d. KeepsRoom (room_of (g.T.Protocol.besides d.protocol) (c.self.inside.starts + c.self.inside.come)) c.mark.new.self) (sym c.rescind_all.ensures.same)
           (room_quiet _ _ _ (got_same _ _ c.mark.ensures.stays.same.pages c.mark.ensures.lists.0 c.mark.ensures.lists.1) c.mark.ensures.stays.cells c.mark.ensures.lists.2 (ap sent_of c.mark.ensures.past) c.self.invariant.room);
-      pages = pages_quiet g.E.Seatlike.told g.T.Protocol.said g.T.Protocol.format g.T.Protocol.lends g.T.Protocol.besides _ _ (ap (λ d. d.protocol) c.rescind_all.ensures.same) (ap (λ d. d.sheets) c.rescind_all.ensures.same) refl c.mark.ensures.lists.0 c.mark.ensures.stays.same.pages c.mark.ensures.stays.tells c.self.invariant.pages;
+      pages = pages_quiet g.E.Seatlike.told g.T.Protocol.said g.T.Protocol.format g.T.Protocol.lends g.T.Protocol.besides _ _ (ap (λ d. d.protocol) c.rescind_all.ensures.same) (ap (λ d. d.sheets) c.rescind_all.ensures.same) refl c.mark.ensures.lists.0 c.mark.ensures.stays.same.pages c.mark.ensures.stays.same.side c.mark.ensures.stays.tells (λ s. ap (own_open s) c.mark.ensures.past) c.mark.ensures.home c.self.invariant.pages;
       side = ap (λ d. d.side) c.rescind_all.ensures.same ∙ (c.self.invariant.side ∙ sym c.mark.ensures.stays.side);
     }
 

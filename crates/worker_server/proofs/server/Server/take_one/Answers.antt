@@ -2,6 +2,7 @@ use Rattle.std.proofs.Common.{List, ℕ, refl, ap, ◌∙◌, subst, ◌≡◌, 
 use Rattle.std.specs.Prelude.{if◌then◌else◌, ◌&&◌}
 use Rattle.channel_trace.specs.Runs.{sent_of}
 use Rattle.page_kept.specs.Items.{item_of}
+use Rattle.channel_model.specs.Acks.{own_open}
 use Rattle.worker_server.proofs.PageSteps.{pages_quiet, pages_took}
 use Rattle.worker_port.specs.Rooms.{KeepsRoom}
 use Rattle.channel_model.specs.Amounts.{room_of}
@@ -15,7 +16,7 @@ invariant_of-self-in-Nothing g c =
     record {
       live = empty_kept (g.T.Protocol.format c.self.inside.responder.protocol) (g.T.Protocol.keeps c.self.inside.responder.protocol) (g.T.Protocol.besides c.self.inside.responder.protocol) _ _ c.in-Nothing.ensures.took.0 c.in-Nothing.ensures.took.1 c.in-Nothing.ensures.finds.awake (ap (λ w. w.end.state.machine.marked) c.self.view_is ∙ c.requires.ready.unmarked) c.self.invariant.live;
       room = room_quiet _ _ _ c.take.ensures.into c.take.ensures.stays.cells c.take.ensures.sent (ap sent_of c.in-Nothing.ensures.took.0) c.self.invariant.room;
-      pages = pages_quiet g.E.Seatlike.told g.T.Protocol.said g.T.Protocol.format g.T.Protocol.lends g.T.Protocol.besides _ _ refl refl refl c.in-Nothing.ensures.took.1 c.take.ensures.stays.same.pages c.take.ensures.stays.tells c.self.invariant.pages;
+      pages = pages_quiet g.E.Seatlike.told g.T.Protocol.said g.T.Protocol.format g.T.Protocol.lends g.T.Protocol.besides _ _ refl refl refl c.in-Nothing.ensures.took.1 c.take.ensures.stays.same.pages c.take.ensures.stays.same.side c.take.ensures.stays.tells (λ s. ap (own_open s) c.in-Nothing.ensures.took.0) c.in-Nothing.ensures.home c.self.invariant.pages;
       side = c.self.invariant.side ∙ sym c.take.ensures.stays.side;
     }
 
@@ -30,6 +31,7 @@ invariant_of-self g c =
       live = took_by g.T.Protocol.format g.T.Protocol.keeps g.T.Protocol.besides _ _ c.close.new.self _ _ t.1 t.2 c.in-Packet.ensures.finds.awake less closes c.close.ensures.size c.close.ensures.same (ap (λ w. w.end.state.machine.marked) c.self.view_is ∙ c.requires.ready.unmarked) c.self.invariant.live;
       room = subst (λ d. KeepsRoom (room_of (g.T.Protocol.besides d.protocol) (c.self.inside.starts + c.self.inside.come)) c.take.new.self) (sym c.close.ensures.same)
           (room_quiet _ _ _ c.take.ensures.into c.take.ensures.stays.cells c.take.ensures.sent (ap sent_of t.1) c.self.invariant.room);
-      pages = pages_took g.E.Seatlike.told g.T.Protocol.said g.T.Protocol.format g.T.Protocol.lends g.T.Protocol.besides _ _ t.0 (ap (λ d. d.protocol) c.close.ensures.same) (ap (λ d. d.sheets) c.close.ensures.same) refl t.2 c.self.invariant.live.within c.take.ensures.stays.same.pages c.take.ensures.stays.tells c.self.invariant.pages;
+      pages = pages_took g.E.Seatlike.told g.T.Protocol.said g.T.Protocol.format g.T.Protocol.lends g.T.Protocol.besides _ _ t.0 g.T.Protocol.paged (ap (λ d. d.protocol) c.close.ensures.same) (ap (λ d. d.sheets) c.close.ensures.same) refl t.2 c.self.invariant.live.within c.take.ensures.stays.same.pages c.take.ensures.stays.same.side c.take.ensures.stays.tells t.1
+          (c.self.invariant.live.own (ap (λ w. w.end.state.machine.marked) c.self.view_is ∙ c.requires.ready.unmarked)) (λ f. c.in-Packet.ensures.home f t.0 t.2) c.self.invariant.pages;
       side = ap (λ d. d.side) c.close.ensures.same ∙ (c.self.invariant.side ∙ sym c.take.ensures.stays.side);
     }
