@@ -6,7 +6,8 @@ use Rattle.std.proofs.lemmas.List.{append-nil, length-map}
 use Rattle.contact.specs.declared.kind.DeviceKind.{DeviceKind}
 use Rattle.io_edge.specs.declared.side.Side.{Side}
 use Rattle.io_edge.specs.declared.side.Side.TheVariants.{Guest, Host}
-use Rattle.ring_pair_laws.specs.Lists.{Lists}
+use Rattle.channel_trace.proofs.Steps.{ends_exchanged}
+use Rattle.ring_pair_laws.specs.Lists.{AreOfRun, Lists}
 use Rattle.script_lines.specs.declared.line.Ask.{Ask}
 use Rattle.device_formats.specs.declared.want.Want.TheVariants.{Script}
 use Rattle.device_formats.specs.Wants.{IsAskable, no_lists}
@@ -19,11 +20,13 @@ use Rattle.device_kinds.specs.Served.{Served}
 use Rattle.bus_model.specs.Orders.{Order, startup_of, plan_of}
 use Rattle.script_phases.specs.Openings.{Phase, Opening}
 use Rattle.bus_model.specs.Orders.{order_of}
-use Rattle.bus_model.specs.Channel.{Carries, InTurn, ItemsArrive, asked_under, asks_under, got_by, is_of_asker, items_of, other, replies_to, sent_by, served_count}
+use Rattle.bus_model.specs.Channel.{Carries, InTurn, ItemsArrive, asked_under, asks_under, events_by, got_by, is_of_asker, items_of, other, replies_to, sent_by, served_count}
 use Rattle.bus_model.specs.Run.{Carried, IsCarried}
 use Rattle.bus_model.specs.Laws.{Suits, OrdersRun}
 use Rattle.bus_model.proofs.Made.{AllSo, Fit, Made, made, so_same}
+use Rattle.bus_model.proofs.Making.{first_got, first_past, first_sent, makes_run, second_got, second_past, second_sent}
 use Rattle.bus_model.proofs.ReadAs.{reads_so}
+use Rattle.bus_model.proofs.Turning.{events_sent, goes_once}
 use Rattle.page_kept.specs.declared.item.Item.{Item}
 use Rattle.page_kept.specs.Items.{packets}
 use Rattle.device_formats.specs.Items.{said_item}
@@ -49,12 +52,12 @@ count_few : (stop : Option (ℕ × Bool)) (m : ℕ) → count_of stop m ≤ m
 count_few None m = omega arith
 count_few (Some k) m = omega arith
 
--- the lists of a run, where page words are as they are read
+-- the lists of a run, where page words are as they are read, and the end that asks sends all before it gets anything
 abbrev pub lists_of : Side → List Item → List Item → Lists
 lists_of Guest sent back =
-    record { guest_sent = packets sent; guest_got = packets back; host_sent = packets back; host_got = packets sent; guest_sent_items = sent; guest_got_items = back; host_sent_items = back; host_got_items = sent }
+    record { guest_sent = packets sent; guest_got = packets back; host_sent = packets back; host_got = packets sent; guest_sent_items = sent; guest_got_items = back; host_sent_items = back; host_got_items = sent; guest_past = first_past (packets sent) (packets back); host_past = second_past (packets sent) (packets back) }
 lists_of Host sent back =
-    record { guest_sent = packets back; guest_got = packets sent; host_sent = packets sent; host_got = packets back; guest_sent_items = back; guest_got_items = sent; host_sent_items = sent; host_got_items = back }
+    record { guest_sent = packets back; guest_got = packets sent; host_sent = packets sent; host_got = packets back; guest_sent_items = back; guest_got_items = sent; host_sent_items = sent; host_got_items = back; guest_past = second_past (packets sent) (packets back); host_past = first_past (packets sent) (packets back) }
 
 -- all packets have their items
 all_items : (is : List Item) → items_of (packets is) is ≡ is
@@ -117,8 +120,27 @@ arrive_at : (side : Side) (order : Order) (sent back : List Item) → ItemsArriv
 arrive_at Guest order sent back = record { at_host = ([], sym (append-nil _)); at_guest = ([], sym (append-nil _)); whole = λ all. (refl, refl) }
 arrive_at Host order sent back = record { at_host = ([], sym (append-nil _)); at_guest = ([], sym (append-nil _)); whole = λ all. (refl, refl) }
 
+moments_at : (side : Side) (sent back : List Item) → AreOfRun (lists_of side sent back)
+moments_at Guest sent back = record {
+  run = makes_run (packets sent) (packets back);
+  guest_sent = first_sent (packets sent) (packets back);
+  guest_got = first_got (packets sent) (packets back);
+  host_sent = second_sent (packets sent) (packets back);
+  host_got = second_got (packets sent) (packets back);
+}
+moments_at Host sent back = record {
+  run = ends_exchanged (first_past (packets sent) (packets back)) (second_past (packets sent) (packets back)) (makes_run (packets sent) (packets back));
+  guest_sent = second_sent (packets sent) (packets back);
+  guest_got = second_got (packets sent) (packets back);
+  host_sent = first_sent (packets sent) (packets back);
+  host_got = first_got (packets sent) (packets back);
+}
+
 turn_at : (order : Order) (sent back : List Item) → ReadAs (side_that_asks order.kind) sent back → ((t : ℕ) → count_by (asks_under (format_of order.kind) t) sent ≤ 1) → InTurn order (lists_of (side_that_asks order.kind) sent back)
-turn_at order sent back read one = λ t. omega (arith, one t, ap (count_by (asks_under (format_of order.kind) t)) read.sent_is)
+turn_at order sent back read one =
+    let side = side_that_asks order.kind in
+    let lists = lists_of side sent back in
+    goes_once (format_of order.kind) (events_by side lists) (λ t. omega (arith, one t, ap (count_by (asks_under (format_of order.kind) t)) (events_sent side lists (moments_at side sent back) ∙ read.sent_is)))
 
 pub channel_made : OrdersRun
 channel_made order served suits =
@@ -134,6 +156,7 @@ channel_made order served suits =
         alone = alone_at side order.kind m.sent m.back read m.alone;
         serves = serves_first_lem side order no_lists lists served suits.can carried;
         arrive = arrive_at side order m.sent m.back;
+        moments = moments_at side m.sent m.back;
         turns = turn_at order m.sent m.back read m.turns;
       },
     )

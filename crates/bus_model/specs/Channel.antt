@@ -1,9 +1,12 @@
 -- The run of one channel in one phase.
-use Rattle.std.specs.Prelude.{ℕ, ◌≡◌, ◌≤◌, ◌+◌, ◌-◌, ◌==◌, min, nat_le, ◌&&◌, ◌||◌, count_by, Bool, true, false, List, [], ◌∷◌, ◌++◌, map, filter, take, drop, replicate, length, Option, Some, None, if◌then◌else◌}
+use Rattle.std.specs.Prelude.{ℕ, ◌≡◌, ◌-◌, ◌==◌, min, nat_le, ◌&&◌, ◌||◌, not, Bool, true, false, List, [], ◌∷◌, ◌++◌, map, filter, take, drop, replicate, length, Option, Some, None, if◌then◌else◌}
 use Rattle.std.specs.List.{AllByRecursion}
 use Rattle.contact.specs.declared.kind.DeviceKind.{DeviceKind}
 use Rattle.page_kept.specs.declared.item.Item.{Item}
 use Rattle.page_kept.specs.Items.{item_of}
+use Rattle.channel_trace.specs.declared.event.Event.{Event}
+use Rattle.channel_trace.specs.declared.event.Event.TheVariants.{Sent, Got, Empty, Marked, Saw}
+use Rattle.channel_trace.specs.Filled.{filled}
 use Rattle.channel_trace.specs.Runs.{IsFront}
 use Rattle.device_formats.specs.Formats.{format_of, asked_as}
 use Rattle.device_formats.specs.Items.{said_item}
@@ -11,7 +14,7 @@ use Rattle.bus_script.specs.declared.outcome.LineResult.{LineResult}
 use Rattle.bus_script.specs.declared.outcome.LineResult.TheVariants.{RescindedServed, Unserved}
 use Rattle.io_edge.specs.declared.side.Side.{Side}
 use Rattle.io_edge.specs.declared.side.Side.TheVariants.{Guest, Host}
-use Rattle.ring_pair_laws.specs.Lists.{Lists}
+use Rattle.ring_pair_laws.specs.Lists.{AreOfRun, Lists}
 use Rattle.script_lines.specs.declared.line.Ask.{Ask}
 use Rattle.bus_script.specs.declared.outcome.Reply.{Reply}
 use Rattle.channel_model.specs.WireFormat.{WireFormat}
@@ -100,14 +103,34 @@ asks_under s t p = s.is_request p && (s.waits p && (s.id_of p == t))
 abbrev pub answers_under : WireFormat Item Want Ask Reply → ℕ → Item → Bool
 answers_under s t p = s.is_answer p && (s.id_of p == t)
 
--- Under each id the end that asks sent at most one request more than answers came: no two requests without an answer have one id. A request of a disk or of a network lends the page of its id, or none, so no page is
--- lent by two requests that aren't completed; one whose completion wasn't taken, as where a rescind came first, isn't used again
+-- what the end of this side did, the last event first
+abbrev pub past_by : Side → Lists → List (Event (List ℕ))
+past_by Guest lists = lists.guest_past
+past_by Host lists = lists.host_past
+
+-- and each packet of it with its page words, as it is read
+abbrev pub events_by : Side → Lists → List (Event Item)
+events_by side lists = filled (λ p. said_item (item_of p [])) (sent_by side lists) (got_by side lists) (past_by side lists)
+
+-- after these events a request is open under this id: one was sent, and no answer came under the id since
+abbrev pub is_open_under : WireFormat Item Want Ask Reply → ℕ → List (Event Item) → Bool
+is_open_under s t [] = false
+is_open_under s t (Sent p ∷ past) = asks_under s t p || is_open_under s t past
+is_open_under s t (Got p ∷ past) = not (answers_under s t p) && is_open_under s t past
+is_open_under s t (Empty ∷ past) = is_open_under s t past
+is_open_under s t (Marked ∷ past) = is_open_under s t past
+is_open_under s t (Saw ∷ past) = is_open_under s t past
+
+-- At no moment was a request sent under an id under which one was open. A request of a disk or of a network lends the page of its id, or none: so a page has one request at a time, until its completion was taken, and
+-- isn't used again where that never comes, as behind a rescind
+abbrev pub GoesInTurn : WireFormat Item Want Ask Reply → List (Event Item) → Type 0
+GoesInTurn s events = (t : ℕ) (later before : List (Event Item)) (p : Item) → events ≡ later ++ Sent p ∷ before → asks_under s t p ≡ true → is_open_under s t before ≡ false
+
 abbrev pub InTurn : Order → Lists → Type 0
-InTurn order lists =
-    (t : ℕ) → count_by (asks_under (format_of order.kind) t) (sent_by (side_that_asks order.kind) lists) ≤ count_by (answers_under (format_of order.kind) t) (got_by (side_that_asks order.kind) lists) + 1
+InTurn order lists = GoesInTurn (format_of order.kind) (events_by (side_that_asks order.kind) lists)
 
 -- and what was served are the first of these requests, in order: all of them where it doesn't stop. The end that asks sent nothing but requests and what
--- acknowledges messages. Page words arrive as they were put there, and ids are used in turn. On a network's channel the
+-- acknowledges messages. Page words arrive as they were put there, both ends' events are one run that tells the lists, and ids are used in turn in it. On a network's channel the
 -- start-up told these page lists
 pub record IsChannelRun (order : Order) (lists : Lists) (served : List Served) : Type 0 where
   pub tells : BufferLists
@@ -115,6 +138,7 @@ pub record IsChannelRun (order : Order) (lists : Lists) (served : List Served) :
   pub alone : AllByRecursion (λ p. is_of_asker order.kind p ≡ true) (sent_by (side_that_asks order.kind) lists)
   pub serves : map (λ s. s.request) served ≡ take (served_count order) (asked_by (side_that_asks order.kind) order lists)
   pub arrive : ItemsArrive order lists
+  pub moments : AreOfRun lists
   pub turns : InTurn order lists
 
 abbrev pub rescinded_of : Served → LineResult

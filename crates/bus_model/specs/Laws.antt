@@ -1,8 +1,14 @@
 -- Laws of runs.
 use Rattle.std.specs.Prelude.{ℕ, ◌≡◌, ◌≤◌, ◌<◌, ◌+◌, ◌-◌, min, Bool, true, false, List, [], ◌∷◌, ◌++◌, length, map, filter, take, replicate, count_by, slice_get, slice_index_or, Some, None}
 use Rattle.std.specs.List.{AllByRecursion, flat_map, range_with_len}
-use Rattle.channel_trace.specs.Runs.{IsFront}
+use Rattle.channel_trace.specs.declared.event.Event.{Event}
+use Rattle.channel_trace.specs.declared.event.Event.TheVariants.{Sent}
+use Rattle.channel_trace.specs.Runs.{IsFront, sent_of, got_of}
+use Rattle.contact.specs.declared.kind.DeviceKind.{DeviceKind}
 use Rattle.contact.specs.declared.kind.DeviceKind.TheVariants.{Net}
+use Rattle.page_kept.specs.declared.item.Item.{Item}
+use Rattle.pkt_desc.specs.Lending.{lent_of}
+use Rattle.pkt_desc.specs.declared.loan.Lent.{Lent}
 use Rattle.script_lines.specs.declared.line.Line.{Line}
 use Rattle.script_lines.specs.declared.line.Ask.{Ask}
 use Rattle.script_lines.specs.Lines.{Asks, Modifies}
@@ -14,7 +20,7 @@ use Rattle.bus_script.specs.declared.outcome.Reply.{Reply}
 use Rattle.bus_script.specs.Report.{prints}
 use Rattle.device_formats.specs.Wants.{IsAskable, no_lists}
 use Rattle.device_formats.specs.declared.buffer_lists.BufferLists.{BufferLists}
-use Rattle.device_formats.specs.Formats.{format_of, fits_on}
+use Rattle.device_formats.specs.Formats.{format_of, fits_on, lends_on}
 use Rattle.io_edge.specs.declared.side.Side.{Side}
 use Rattle.io_edge.specs.declared.side.Side.TheVariants.{Guest, Host}
 use Rattle.ring_pair_laws.specs.Lists.{Lists}
@@ -23,7 +29,7 @@ use Rattle.channel_model.specs.Acks.{acks_for}
 use Rattle.channel_model.specs.Roles.{side_that_asks}
 use Rattle.device_kinds.specs.Served.{Served, done_of}
 use Rattle.bus_model.specs.Orders.{Order, order_of, startup_of}
-use Rattle.bus_model.specs.Channel.{IsChannelRun, Carries, asked_under, asked_by, sent_by, items_sent, items_got, other, served_count, is_held, replies_to, rescinded_of, outcomes_of}
+use Rattle.bus_model.specs.Channel.{IsChannelRun, Carries, answers_under, asked_under, asked_by, asks_under, events_by, got_by, sent_by, items_sent, items_got, other, served_count, is_held, replies_to, rescinded_of, outcomes_of}
 use Rattle.device_kinds.specs.Logs.{Recorded, served_from}
 use Rattle.bus_model.specs.Run.{Carried, IsBusRun, PhaseRuns, Known, seats_of, source_said, told_by}
 use Rattle.bus_model.specs.declared.channel_run.ChannelRun.{ChannelRun}
@@ -38,6 +44,37 @@ pub record Arrived (order : Order) (lists : Lists) : Type 0 where
 
 abbrev pub Arrives : Type 0
 Arrives = (order : Order) (lists : Lists) (served : List Served) → IsChannelRun order lists served → Arrived order lists
+
+-- Under each id, at each moment, at most one request more was sent than answers came: so also at the end, in the lists
+pub record OneOpen (order : Order) (lists : Lists) : Type 0 where
+  pub ever : (t : ℕ) (later before : List (Event Item)) → events_by (side_that_asks order.kind) lists ≡ later ++ before
+      → count_by (asks_under (format_of order.kind) t) (sent_of before) ≤ count_by (answers_under (format_of order.kind) t) (got_of before) + 1
+  pub lists_tell : (t : ℕ) → count_by (asks_under (format_of order.kind) t) (sent_by (side_that_asks order.kind) lists) ≤ count_by (answers_under (format_of order.kind) t) (got_by (side_that_asks order.kind) lists) + 1
+  -- an id whose answer never came went once: where one was sent, and no answer under it came later, none was sent under it later
+  pub unanswered : (t : ℕ) (later before : List (Event Item)) (p : Item) → events_by (side_that_asks order.kind) lists ≡ later ++ Sent p ∷ before → asks_under (format_of order.kind) t p ≡ true
+      → count_by (answers_under (format_of order.kind) t) (got_of later) ≡ 0 → count_by (asks_under (format_of order.kind) t) (sent_of later) ≡ 0
+
+abbrev pub OpensOne : Type 0
+OpensOne = (order : Order) (lists : Lists) (served : List Served) → IsChannelRun order lists served → OneOpen order lists
+
+-- a request that has an answer, under an id from 1 to 64, and lends this
+pub record LendsBy (kind : DeviceKind) (p : Item) (l : Lent) : Type 0 where
+  pub asks : (format_of kind).is_request p ≡ true
+  pub waits : (format_of kind).waits p ≡ true
+  pub least : 1 ≤ (format_of kind).id_of p
+  pub within : (format_of kind).id_of p ≤ 64
+  pub lent : lent_of p.packet ≡ Some l
+
+-- Of two requests that lend one page the second goes once the completion of the first was taken: a page has one request at a time, and one whose completion was never taken, as where a rescind
+-- came first, is lent to no other
+abbrev pub LendsInTurn : Order → Lists → Type 0
+LendsInTurn order lists = (later between before : List (Event Item)) (first second : Item) (l m : Lent)
+    → events_by (side_that_asks order.kind) lists ≡ later ++ Sent second ∷ (between ++ Sent first ∷ before)
+    → LendsBy order.kind first l → LendsBy order.kind second m → l.page ≡ m.page
+    → 1 ≤ count_by (answers_under (format_of order.kind) ((format_of order.kind).id_of first)) (got_of between)
+
+abbrev pub LendsOne : Type 0
+LendsOne = (order : Order) (lists : Lists) (served : List Served) → IsChannelRun order lists served → lends_on order.kind ≡ true → LendsInTurn order lists
 
 -- as many requests are served as the order says
 abbrev pub ServesEach : Type 0

@@ -1,11 +1,21 @@
 //! Laws of runs. The functions do nothing: each one's contract is the law.
-ghost use Rattle.bus_model.specs.Laws.{Arrives, ServesEach, ServesFirst, AsksAsScripted, CompletesEach, OneEach, CarriesOpened, TableOfOutcomes, RowsOfEnded, ListsTell, Rescinds, UnservedNowhere, OrdersRun};
+ghost use Rattle.bus_model.specs.Laws.{Arrives, OpensOne, LendsOne, ServesEach, ServesFirst, AsksAsScripted, CompletesEach, OneEach, CarriesOpened, TableOfOutcomes, RowsOfEnded, ListsTell, Rescinds, UnservedNowhere, OrdersRun};
 ghost use Rattle.bus_model.specs.Worked.{Shares, SharesOtherwise, Closes, Rescinded, Held};
 
 /// What each end of a channel got is what the other one sent, as it was sent: all of it, unless
 /// the service stopped.
 pub fn arrives()
     ensures { Arrives }
+{}
+
+/// No id is used by two requests at once: at each moment at most one under it is without its answer, and one whose answer never came was the last one under it.
+pub fn opens_one()
+    ensures { OpensOne }
+{}
+
+/// A page that requests lend has one of them at a time: the next one goes once the completion of the one before was taken.
+pub fn lends_one()
+    ensures { LendsOne }
 {}
 
 /// Each request of the script on a channel was served once, up to where the service stopped.

@@ -1,16 +1,17 @@
 -- What both workers of a pair come to, once they ended.
 use Rattle.std.proofs.Common.{◌≡◌, ◌≢◌, ◌≤◌, ◌+◌, ℕ, length, filter, arith, Bool, true, false, List, [], ◌++◌, map, Option, refl, sym, ap, ◌∙◌, subst}
-use Rattle.std.specs.Prelude.{count_by, take}
+use Rattle.std.specs.Prelude.{take}
 use Rattle.std.proofs.lemmas.List.{length-map, append-nil}
 use Rattle.page_kept.specs.declared.item.Item.{Item}
-use Rattle.page_kept.specs.Items.{packets}
+use Rattle.page_kept.specs.Items.{item_of, packets}
 use Rattle.channel_trace.specs.declared.event.Event.{Event}
+use Rattle.channel_trace.specs.Filled.{filled}
 use Rattle.channel_trace.specs.Laws.{AreOfOneRun}
 use Rattle.channel_trace.specs.Runs.{IsFront, sent_of, got_of}
 use Rattle.channel_trace.proofs.Steps.{ends_exchanged}
 use Rattle.bus_model.specs.Orders.{Order, plan_of}
 use Rattle.std.specs.List.{AllByRecursion}
-use Rattle.bus_model.specs.Channel.{IsChannelRun, Carries, InTurn, ItemsArrive, answers_under, asks_under, is_of_asker, items_got, items_of, items_sent, replies_to, sent_by, got_by, other}
+use Rattle.bus_model.specs.Channel.{IsChannelRun, Carries, GoesInTurn, InTurn, ItemsArrive, events_by, is_of_asker, items_got, items_of, items_sent, replies_to, sent_by, got_by, other}
 use Rattle.bus_model.proofs.FromLists.{serves_first_lem}
 use Rattle.device_kinds.specs.Served.{Served}
 use Rattle.script_lines.specs.declared.line.Ask.{Ask}
@@ -27,7 +28,7 @@ use Rattle.device_formats.specs.declared.want.Want.TheVariants.{Script}
 use Rattle.io_edge.specs.declared.side.Side.{Side}
 use Rattle.io_edge.specs.declared.side.Side.TheVariants.{Guest, Host}
 use Rattle.ring_core.specs.Seen.{Seen}
-use Rattle.ring_pair_laws.specs.Lists.{Lists}
+use Rattle.ring_pair_laws.specs.Lists.{AreOfRun, Lists}
 use Rattle.ring_seat.specs.declared.table_seat.TableSeat.{TableSeat}
 use Rattle.channel_model.specs.Asker.{Encoded, requests_of}
 use Rattle.channel_model.specs.Channel.{AskerEnds, ServerEnds, asks_of as channel_asks, count_of, held_of, IsProtocolRun as Runs}
@@ -39,10 +40,10 @@ use Rattle.worker_port.specs.Rooms.{AskedWithin, AskLacksFor, has_room, is_asked
 use Rattle.worker_server.specs.Serving.{Serving, EndsAll, EndsBy, calls_behind}
 use Rattle.worker_port.specs.declared.ended.Ended.{Ended}
 use Rattle.worker_port.specs.declared.ended.Ended.TheVariants.{Marked, PeerMarked, Room, Broken}
-use Rattle.worker_port.specs.Line.{GotItems, IsLine, Line, line_of, whole}
+use Rattle.worker_port.specs.Line.{GotItems, IsLine, Line, line_of, past_as, whole}
 use Rattle.worker_port.proofs.ItemRuns.{items_run, items_got as items_got_of, items_sent as items_sent_of}
 use Rattle.bus_threads.proofs.ItemJoins.{front_all, got_items, items_are}
-use Rattle.bus_threads.proofs.Turns.{in_turn}
+use Rattle.bus_threads.proofs.Turns.{has_ids, in_turn}
 use Rattle.worker_port.proofs.RoomLaws.{never_lacks}
 use Rattle.worker_pair.specs.Leaving.{Leaves, LeavesAsked, LeavesServed, WorkerDone, items_in, told_at}
 use Rattle.worker_pair.specs.Pairs.{ArePair, PlansAgree}
@@ -52,7 +53,7 @@ use Rattle.worker_pair.specs.Seats.{at_guest, at_host}
 use Rattle.device_any.specs.declared.device_seat.DeviceSeat.{DeviceSeat}
 use Rattle.worker_pair.specs.declared.worker.Worker.{Worker}
 use Rattle.worker_pair.specs.declared.worker.Worker.TheVariants.{Asks, Serves}
-use Rattle.bus_threads.specs.Pairs.{MadeFor, MarkedFirst, RunsPair, ComesBack, ended_at, first_of, is_whole}
+use Rattle.bus_threads.specs.Pairs.{HasIds, MadeFor, MarkedFirst, RunsPair, ComesBack, ended_at, first_of, is_whole}
 use Rattle.bus_threads.specs.declared.pair.PairDone.{PairDone}
 use Rattle.bus_threads.proofs.Alone.{alone}
 use Rattle.bus_threads.proofs.Asked.{few_asked}
@@ -68,6 +69,8 @@ pub record Joins (asker server : Seen TableSeat) (lists : Lists) (side : Side) :
   pub server_got : got_by (other side) lists ≡ got_of (items_in server)
   pub at_host : IsFront (items_got Host lists) (items_sent Guest lists)
   pub at_guest : IsFront (items_got Guest lists) (items_sent Host lists)
+  pub moments : AreOfRun lists
+  pub asker_did : events_by side lists ≡ items_in asker
 
 -- both workers have ended, and their ends were joined
 pub record BothLeave (a : Asking ChannelScript TableSeat Reply) (s : Serving ChannelScript DeviceSeat TableSeat Ask Reply) (asked served : WorkerDone) (lists : Lists) (side : Side) : Type 0 where
@@ -149,11 +152,12 @@ arrives_at Host order tells lists calls at_host at_guest run = record {
 }
 
 -- ids are used in turn
-turns_at : (order : Order) (tells : BufferLists) (lists : Lists) (past : List (Event Item)) (most : ℕ) → sent_by (side_that_asks order.kind) lists ≡ sent_of past → got_by (side_that_asks order.kind) lists ≡ got_of past
-    → Encoded (format_of order.kind) (channel_asks (format_of order.kind) (plan_of tells order)) (requests_of (format_of order.kind) past) → AskedFrom (format_of order.kind) most (startup order.kind order.sub order.subs tells ++ map Script order.asks) past → InTurn order lists
-turns_at order tells lists past most sent got encoded from = λ t.
+turns_at : (order : Order) (tells : BufferLists) (lists : Lists) (past : List (Event Item)) (most : ℕ) → events_by (side_that_asks order.kind) lists ≡ past
+    → Encoded (format_of order.kind) (channel_asks (format_of order.kind) (plan_of tells order)) (requests_of (format_of order.kind) past)
+    → AskedFrom (format_of order.kind) most (startup order.kind order.sub order.subs tells ++ map Script order.asks) past → InTurn order lists
+turns_at order tells lists past most did encoded from =
     let s = format_of order.kind in
-    subst (λ (l : List Item × List Item). count_by (asks_under s t) l.0 ≤ count_by (answers_under s t) l.1 + 1) (λ i. (sym sent i, sym got i)) (in_turn s most (channel_asks s (plan_of tells order)) past encoded from t)
+    subst (GoesInTurn s) (sym did) (in_turn s most (channel_asks s (plan_of tells order)) past encoded from)
 
 -- the channel ran, and each request that was served was a call of the seat
 pub record RanBy (order : Order) (tells : BufferLists) (seat : DeviceSeat) (earlier : List Served) (back : DeviceSeat) (lists : Lists) (asked served : WorkerDone) : Type 0 where
@@ -193,7 +197,8 @@ ran order seat earlier a s asked served lists side at_side made ended =
         alone = only;
         serves = serves_first_lem (side_that_asks order.kind) order tells lists calls made.can carried;
         arrive = arrives_at (side_that_asks order.kind) order tells lists calls at.at_host at.at_guest carried;
-        turns = turns_at order tells lists (items_in asked.end) (length a.table) at.asker_sent at.asker_got both.asker_ends.encoded (subst (λ (t : ChannelScript). AskedFrom (format_of t.kind) (length a.table) (asks_of t) (items_in asked.end)) made.protocol ended.asker_leaves.ids);
+        moments = at.moments;
+        turns = turns_at order tells lists (items_in asked.end) (length a.table) at.asker_did both.asker_ends.encoded (subst (λ (t : ChannelScript). AskedFrom (format_of t.kind) (length a.table) (asks_of t) (items_in asked.end)) made.protocol ended.asker_leaves.ids);
       };
       told = refl;
       same = ended.server_leaves.place ∙ ap device_place made.seat_is;
@@ -229,6 +234,7 @@ pub record Closes (g h : Worker) (guest host : WorkerDone) (done : PairDone) : T
   pub fronts : IsFront done.settled.guest_got done.settled.host_sent × IsFront done.settled.host_got done.settled.guest_sent
   pub guest_items : (done.settled.guest_sent_items ≡ guest.end.state.pages.sent) × (done.settled.guest_got_items ≡ guest.end.state.pages.got)
   pub host_items : (done.settled.host_sent_items ≡ host.end.state.pages.sent) × (done.settled.host_got_items ≡ host.end.state.pages.got)
+  pub pasts : (done.settled.guest_past ≡ guest.end.state.past) × (done.settled.host_past ≡ host.end.state.past)
   pub item_fronts : (guest.end.state.pages.count ≢ 0 → IsFront done.settled.guest_got_items done.settled.host_sent_items) × (host.end.state.pages.count ≢ 0 → IsFront done.settled.host_got_items done.settled.guest_sent_items)
   pub guest_seat : at_guest done.guest_seat ≡ guest.seat
   pub host_seat : at_host done.host_seat ≡ host.seat
@@ -256,6 +262,7 @@ record Ends (guest host : Seen TableSeat) (lists : Lists) : Type 0 where
   to_guest : GotItems guest.state host.state
   to_host : GotItems host.state guest.state
   one : AreOfOneRun (items_in guest) (items_in host)
+  moments : AreOfRun lists
 
 ends_of : (g h : Worker) (guest host : WorkerDone) (done : PairDone) → Closes g h guest host done → IsLine told_at guest.end → IsLine told_at host.end → guest.end.state.pages.count ≡ host.end.state.pages.count → Ends guest.end host.end done.settled
 ends_of g h guest host done closes at_guest at_host same =
@@ -275,6 +282,13 @@ ends_of g h guest host done closes at_guest at_host same =
       to_guest = to_guest;
       to_host = to_host;
       one = items_run said_item guest.end host.end at_guest at_host closes.run to_guest to_host;
+      moments = record {
+        run = subst (λ (l : List (Event (List ℕ)) × List (Event (List ℕ))). AreOfOneRun l.0 l.1) (λ i. (sym closes.pasts.0 i, sym closes.pasts.1 i)) closes.run;
+        guest_sent = ap sent_of closes.pasts.0 ∙ (at_guest.sent ∙ sym gl.0);
+        guest_got = ap got_of closes.pasts.0 ∙ (at_guest.got ∙ sym gl.1);
+        host_sent = ap sent_of closes.pasts.1 ∙ (at_host.sent ∙ sym hl.0);
+        host_got = ap got_of closes.pasts.1 ∙ (at_host.got ∙ sym hl.1);
+      };
     }
 
 -- an end's lists, as they are read
@@ -283,6 +297,12 @@ sent_is e l h is = ap (map said_item) is ∙ sym (items_sent_of said_item e h)
 
 got_is : (e : Seen TableSeat) (l : List Item) → IsLine told_at e → l ≡ whole e.state.got e.state.pages.got → map said_item l ≡ got_of (items_in e)
 got_is e l h is = ap (map said_item) is ∙ sym (items_got_of said_item e h)
+
+-- what an end did, in items as they are read
+did_is : (e : Seen TableSeat) (sent got : List Item) (past : List (Event (List ℕ))) → sent ≡ whole e.state.sent e.state.pages.sent → got ≡ whole e.state.got e.state.pages.got → past ≡ e.state.past
+    → filled (λ p. said_item (item_of p [])) (map said_item sent) (map said_item got) past ≡ items_in e
+unfolding past_as
+did_is e sent got past a b c = λ i. filled (λ p. said_item (item_of p [])) (map said_item (a i)) (map said_item (b i)) (c i)
 
 front_is : (xs ys us vs : List Item) → xs ≡ us → ys ≡ vs → IsFront us vs → IsFront xs ys
 front_is xs ys us vs e f front = subst (λ (l : List Item × List Item). IsFront l.0 l.1) (λ i. (sym e i, sym f i)) front
@@ -308,6 +328,8 @@ guest_asks a s guest host done closes =
         server_got = got_is host.end _ at_h e.host_got;
         at_host = front_is _ _ _ _ e.host_got e.guest_sent e.to_host;
         at_guest = front_is _ _ _ _ e.guest_got e.host_sent e.to_guest;
+        moments = e.moments;
+        asker_did = did_is guest.end _ _ _ e.guest_sent e.guest_got closes.pasts.0;
       };
     }
 
@@ -328,8 +350,14 @@ host_asks a s guest host done closes =
         server_got = got_is guest.end _ at_g e.guest_got;
         at_host = front_is _ _ _ _ e.host_got e.guest_sent e.to_host;
         at_guest = front_is _ _ _ _ e.guest_got e.host_sent e.to_guest;
+        moments = e.moments;
+        asker_did = did_is host.end _ _ _ e.host_sent e.host_got closes.pasts.1;
       };
     }
+
+-- and their ids are those of its table
+ids_at : (a : Asking ChannelScript TableSeat Reply) (past : List (Event Item)) (sent : List Item) → sent ≡ sent_of past → AskedFrom (format_of a.protocol.kind) (length a.table) (asks_of a.protocol) past → HasIds (format_of a.protocol.kind) (length a.table) sent
+ids_at a past sent is from = subst (HasIds (format_of a.protocol.kind) (length a.table)) (sym is) (has_ids (format_of a.protocol.kind) (length a.table) (asks_of a.protocol) past from)
 
 pub runs_pair : (g h : Worker) (guest host : WorkerDone) (done : PairDone) → Closes g h guest host done → RunsPair (record { guest = g; host = h }) done
 unfolding guest_asks host_asks
@@ -341,6 +369,7 @@ runs_pair (Asks a) (Serves s) guest host done closes =
       guest = ap is_whole closes.guest_ended ∙ whole.0;
       host = ap is_whole closes.host_ended ∙ whole.1;
       seats = (closes.guest_seat ∙ closes.guest_leaves.seat, comes_back s host (at_host done.host_seat) closes.host_seat closes.host_leaves);
+      ids = ids_at a (items_in guest.end) (sent_by Guest done.settled) both.joins.asker_sent closes.guest_leaves.ids;
       runs = λ order seat earlier opens.
           let r = ran order seat earlier a s guest host done.settled Guest opens.0 opens.1 both in
           record {
@@ -362,6 +391,7 @@ runs_pair (Serves s) (Asks a) guest host done closes =
       guest = ap is_whole closes.guest_ended ∙ whole.1;
       host = ap is_whole closes.host_ended ∙ whole.0;
       seats = (comes_back s guest (at_guest done.guest_seat) closes.guest_seat closes.guest_leaves, closes.host_seat ∙ closes.host_leaves.seat);
+      ids = ids_at a (items_in host.end) (sent_by Host done.settled) both.joins.asker_sent closes.host_leaves.ids;
       runs = λ order seat earlier opens.
           let r = ran order seat earlier a s host guest done.settled Host opens.0 opens.1 both in
           record {

@@ -1,58 +1,64 @@
--- Under each id at most one request more was sent than answers came.
-use Rattle.std.proofs.Common.{◌≡◌, ◌≤◌, ◌+◌, ℕ, zero, suc, Bool, true, false, cond, List, [], ◌∷◌, ◌++◌, length, length-append, drop, Option, Some, None, refl, sym, ap, ◌∙◌, arith}
-use Rattle.std.specs.Prelude.{◌==◌, ◌&&◌, count_by}
+-- No request goes under an id under which one is open.
+use Rattle.std.proofs.Common.{◌≡◌, ◌≤◌, ◌+◌, ℕ, zero, suc, Bool, true, false, cond, List, [], ◌∷◌, ◌++◌, length, length-append, drop, Some, None, refl, sym, ap, ◌∙◌, subst, arith}
+use Rattle.std.specs.Prelude.{◌==◌, ◌&&◌, ◌||◌, not, count_by}
+use Rattle.std.specs.List.{AllByRecursion}
 use Rattle.std.proofs.lemmas.Bool.Decides.{nat_tests}
-use Rattle.std.proofs.lemmas.List.Sums.{count_by-le-length, sum_by-append}
+use Rattle.std.proofs.lemmas.List.Sums.{sum_by-append}
 use Rattle.page_kept.specs.declared.item.Item.{Item}
 use Rattle.channel_trace.specs.declared.event.Event.{Event}
 use Rattle.channel_trace.specs.declared.event.Event.TheVariants.{Sent, Got, Empty, Marked, Saw}
-use Rattle.channel_trace.specs.Runs.{sent_of, got_of}
-use Rattle.channel_model.specs.WireFormat.{WireFormat, listed}
+use Rattle.channel_trace.specs.Runs.{sent_of}
+use Rattle.script_lines.specs.declared.line.Ask.{Ask}
+use Rattle.bus_script.specs.declared.outcome.Reply.{Reply}
+use Rattle.device_formats.specs.declared.want.Want.{Want}
+use Rattle.channel_model.specs.WireFormat.{WireFormat}
 use Rattle.channel_model.specs.Asker.{Encoded, open_of, opened, requests_of, under, without}
 use Rattle.channel_model.proofs.Opens.{by_test, filter_no, filter_yes}
-use Rattle.worker_requester.specs.Asking.{AskedFrom}
+use Rattle.worker_requester.specs.Asking.{AskedFrom, GoesFree}
 use Rattle.worker_requester.proofs.AskSteps.{encoded_few}
-
-module _ {X : Type 0} (f : X → Bool) where
-  count_append : (xs ys : List X) → count_by f (xs ++ ys) ≡ count_by f xs + count_by f ys
-  count_append xs ys = sum_by-append (λ x. cond (f x) 1 0) xs ys
-
-  count_one : (x : X) (b : Bool) → f x ≡ b → count_by f (x ∷ []) ≡ cond b 1 0
-  count_one x b e = ap (λ c. 0 + cond c 1 0) e ∙ omega arith
-
-  past_one : (xs : List X) (x : X) → f x ≡ false → count_by f (xs ++ x ∷ []) ≡ count_by f xs
-  past_one xs x e = omega (arith, count_append xs (x ∷ []), count_one x false e)
-
-  more_one : (xs : List X) (x : X) → f x ≡ true → count_by f (xs ++ x ∷ []) ≡ count_by f xs + 1
-  more_one xs x e = omega (arith, count_append xs (x ∷ []), count_one x true e)
+use Rattle.bus_threads.specs.Pairs.{HasIds}
+use Rattle.bus_model.specs.Channel.{GoesInTurn, answers_under, asks_under, is_open_under}
 
 some_ask : {A : Type 0} (n : ℕ) (asks : List A) → n + 1 ≤ length asks → (a : A) × (rest : List A) × (drop n asks ≡ a ∷ rest)
 some_ask n [] le = absurd (omega (arith, le))
 some_ask zero (a ∷ asks) le = (a, asks, refl)
 some_ask (suc n) (a ∷ asks) le = some_ask n asks (omega (arith, le))
 
-module _ {A Q R : Type 0} (s : WireFormat Item A Q R) (t : ℕ) where
-  abbrev asks_at : Item → Bool
-  asks_at p = s.is_request p && (s.waits p && (s.id_of p == t))
+all_last : (P : Item → Type 0) (xs : List Item) (x : Item) → AllByRecursion P xs → P x → AllByRecursion P (xs ++ x ∷ [])
+all_last P [] x all last = (last, tt)
+all_last P (y ∷ xs) x all last = (all.0, all_last P xs x all.1 last)
 
-  abbrev answers_at : Item → Bool
-  answers_at p = s.is_answer p && (s.id_of p == t)
+abbrev num : Bool → ℕ
+num b = cond b 1 0
 
+few : (b : Bool) → num b ≤ 1
+few true = omega arith
+few false = omega arith
+
+first_of : (a b : Bool) → (a && b) ≡ true → a ≡ true
+first_of true b h = refl
+first_of false b h = cc
+
+rest_of : (a b : Bool) → (a && b) ≡ true → b ≡ true
+rest_of true b h = h
+rest_of false b h = cc
+
+module _ (s : WireFormat Item Want Ask Reply) (t : ℕ) where
   -- a request is open under the id
-  abbrev is_at : ℕ × A → Bool
+  abbrev is_at : ℕ × Want → Bool
   is_at o = o.0 == t
 
   -- how many are
-  abbrev at : List (ℕ × A) → ℕ
+  abbrev at : List (ℕ × Want) → ℕ
   at os = count_by is_at os
 
-  at_append : (xs ys : List (ℕ × A)) → at (xs ++ ys) ≡ at xs + at ys
-  at_append xs ys = count_append is_at xs ys
+  at_append : (xs ys : List (ℕ × Want)) → at (xs ++ ys) ≡ at xs + at ys
+  at_append xs ys = sum_by-append (λ o. num (is_at o)) xs ys
 
-  at_one : (o : ℕ × A) (b : Bool) → (o.0 == t) ≡ b → at (o ∷ []) ≡ cond b 1 0
-  at_one o b e = count_one is_at o b e
+  at_one : (o : ℕ × Want) (b : Bool) → (o.0 == t) ≡ b → at (o ∷ []) ≡ num b
+  at_one o b e = ap (λ c. 0 + num c) e ∙ omega arith
 
-  none_at : (os : List (ℕ × A)) → under s t os ≡ None → at os ≡ 0
+  none_at : (os : List (ℕ × Want)) → under s t os ≡ None → at os ≡ 0
   none_at [] e = refl
   none_at (o ∷ os) e =
       by_test (o.0 == t)
@@ -61,103 +67,120 @@ module _ {A Q R : Type 0} (s : WireFormat Item A Q R) (t : ℕ) where
       let rest : under s t os ≡ None = sym (ap (λ b. cond b (Some o) (under s t os)) other) ∙ e in
       omega (arith, at_append (o ∷ []) os, at_one o false other, none_at os rest))
 
-  out_yes : (id : ℕ) (o : ℕ × A) (os : List (ℕ × A)) → (o.0 == id) ≡ true → without s id (o ∷ os) ≡ os
-  out_yes id o os e = ap (λ b. cond b os (o ∷ without s id os)) e
-
-  out_no : (id : ℕ) (o : ℕ × A) (os : List (ℕ × A)) → (o.0 == id) ≡ false → without s id (o ∷ os) ≡ o ∷ without s id os
-  out_no id o os e = ap (λ b. cond b os (o ∷ without s id os)) e
-
-  -- an answer closes at most one
-  one_out : (id : ℕ) (os : List (ℕ × A)) → at os ≡ at (listed (under s id os)) + at (without s id os)
-  one_out id [] = refl
-  one_out id (o ∷ os) =
-      by_test (o.0 == id)
-      (λ e.
-      let found : under s id (o ∷ os) ≡ Some o = ap (λ b. cond b (Some o) (under s id os)) e in
-      omega (arith, at_append (o ∷ []) os, ap (λ (u : Option (ℕ × A)). at (listed u)) found, ap at (out_yes id o os e)))
-      (λ e.
-      let later : under s id (o ∷ os) ≡ under s id os = ap (λ b. cond b (Some o) (under s id os)) e in
-      omega (arith, one_out id os, at_append (o ∷ []) os, at_append (o ∷ []) (without s id os), ap (λ (u : Option (ℕ × A)). at (listed u)) later, ap at (out_no id o os e)))
-
-  few_listed : (u : Option (ℕ × A)) → at (listed u) ≤ 1
-  few_listed None = omega arith
-  few_listed (Some o) = count_by-le-length is_at (o ∷ [])
-
-  -- and one under another id none of these
-  kept_at : (id : ℕ) (os : List (ℕ × A)) → (id == t) ≡ false → at os ≡ at (without s id os)
+  -- an answer under another id closes none of these
+  kept_at : (id : ℕ) (os : List (ℕ × Want)) → (id == t) ≡ false → at os ≡ at (without s id os)
   kept_at id [] other = refl
   kept_at id (o ∷ os) other =
       by_test (o.0 == id)
       (λ e.
       let apart : (o.0 == t) ≡ false = grind (arith, nat_tests, e, other) in
-      omega (arith, at_append (o ∷ []) os, at_one o false apart, ap at (out_yes id o os e)))
-      (λ e. omega (arith, kept_at id os other, at_append (o ∷ []) os, at_append (o ∷ []) (without s id os), ap at (out_no id o os e)))
+      let out : without s id (o ∷ os) ≡ os = ap (λ b. cond b os (o ∷ without s id os)) e in
+      omega (arith, at_append (o ∷ []) os, at_one o false apart, ap at out))
+      (λ e.
+      let out : without s id (o ∷ os) ≡ o ∷ without s id os = ap (λ b. cond b os (o ∷ without s id os)) e in
+      omega (arith, kept_at id os other, at_append (o ∷ []) os, at_append (o ∷ []) (without s id os), ap at out))
 
-  -- what was sent and got, with what is open
-  record Turns (asks : List A) (past : List (Event Item)) : Type 0 where
-    count : count_by asks_at (sent_of past) ≤ count_by answers_at (got_of past) + at (open_of s asks past)
-    one : at (open_of s asks past) ≤ 1
+  -- what is open under the id by the packets stands among the open requests
+  abbrev Stands : List Want → List (Event Item) → Type 0
+  Stands asks past = num (is_open_under s t past) ≤ at (open_of s asks past)
 
-  turns : (most : ℕ) (asks : List A) (past : List (Event Item)) → length (requests_of s past) ≤ length asks → AskedFrom s most asks past → Turns asks past
-  turns most asks [] few from = record { count = omega arith; one = omega arith }
-  turns most asks (Empty ∷ past) few from = let h = turns most asks past few from in record { count = h.count; one = h.one }
-  turns most asks (Marked ∷ past) few from = let h = turns most asks past few from in record { count = h.count; one = h.one }
-  turns most asks (Saw ∷ past) few from = let h = turns most asks past few from in record { count = h.count; one = h.one }
-  turns most asks (Got p ∷ past) few from =
-      let h = turns most asks past few from in
+  stands : (asks : List Want) (past : List (Event Item)) → length (requests_of s past) ≤ length asks → Stands asks past
+  stands asks [] enough = omega arith
+  stands asks (Empty ∷ past) enough = stands asks past enough
+  stands asks (Marked ∷ past) enough = stands asks past enough
+  stands asks (Saw ∷ past) enough = stands asks past enough
+  stands asks (Got p ∷ past) enough =
       let os = open_of s asks past in
+      let h = stands asks past enough in
       by_test (s.is_answer p)
       (λ answer.
       let opens : open_of s asks (Got p ∷ past) ≡ without s (s.id_of p) os = ap (λ b. cond b (without s (s.id_of p) os) os) answer in
       by_test (s.id_of p == t)
       (λ is.
-      let here : answers_at p ≡ true = ap (λ b. b && (s.id_of p == t)) answer ∙ is in
-      record { count = omega (arith, h.count, more_one answers_at (got_of past) p here, one_out (s.id_of p) os, few_listed (under s (s.id_of p) os), ap at opens); one = omega (arith, h.one, one_out (s.id_of p) os, ap at opens) })
+      let here : answers_under s t p ≡ true = ap (λ b. b && (s.id_of p == t)) answer ∙ is in
+      let now : is_open_under s t (Got p ∷ past) ≡ false = ap (λ b. not b && is_open_under s t past) here in
+      omega (arith, ap num now))
       (λ other_id.
-      let not : answers_at p ≡ false = ap (λ b. b && (s.id_of p == t)) answer ∙ other_id in
-      record { count = omega (arith, h.count, past_one answers_at (got_of past) p not, kept_at (s.id_of p) os other_id, ap at opens); one = omega (arith, h.one, kept_at (s.id_of p) os other_id, ap at opens) }))
+      let away : answers_under s t p ≡ false = ap (λ b. b && (s.id_of p == t)) answer ∙ other_id in
+      let now : is_open_under s t (Got p ∷ past) ≡ is_open_under s t past = ap (λ b. not b && is_open_under s t past) away in
+      omega (arith, h, kept_at (s.id_of p) os other_id, ap at opens, ap num now)))
       (λ other.
       let opens : open_of s asks (Got p ∷ past) ≡ os = ap (λ b. cond b (without s (s.id_of p) os) os) other in
-      let not : answers_at p ≡ false = ap (λ b. b && (s.id_of p == t)) other in
-      record { count = omega (arith, h.count, past_one answers_at (got_of past) p not, ap at opens); one = omega (arith, h.one, ap at opens) })
-  turns most asks (Sent p ∷ past) few from =
+      let away : answers_under s t p ≡ false = ap (λ b. b && (s.id_of p == t)) other in
+      let now : is_open_under s t (Got p ∷ past) ≡ is_open_under s t past = ap (λ b. not b && is_open_under s t past) away in
+      omega (arith, h, ap at opens, ap num now))
+  stands asks (Sent p ∷ past) enough =
       let os = open_of s asks past in
       let new = opened s p (drop (length (requests_of s past)) asks) in
       by_test (s.is_request p)
       (λ request.
       let requests : requests_of s (Sent p ∷ past) ≡ requests_of s past ++ p ∷ [] = filter_yes s.is_request (sent_of past) p request in
       let count : length (requests_of s (Sent p ∷ past)) ≡ length (requests_of s past) + 1 = ap length requests ∙ omega (arith, length-append (requests_of s past) (p ∷ [])) in
-      let h = turns most asks past (omega (arith, few, count)) from.1 in
-      let ask = some_ask (length (requests_of s past)) asks (omega (arith, few, count)) in
+      let h = stands asks past (omega (arith, enough, count)) in
       let opens : open_of s asks (Sent p ∷ past) ≡ os ++ new = ap (λ b. cond b (os ++ new) os) request in
-      let is_new : new ≡ cond (s.waits p) ((s.id_of p, ask.0) ∷ []) [] = ap (opened s p) ask.2 in
-      by_test (s.waits p)
-      (λ waits.
-      let one : new ≡ (s.id_of p, ask.0) ∷ [] = is_new ∙ ap (λ b. cond b ((s.id_of p, ask.0) ∷ []) []) waits in
-      by_test (s.id_of p == t)
-      (λ is.
-      let here : asks_at p ≡ true = ap (λ b. b && (s.waits p && (s.id_of p == t))) request ∙ (ap (λ b. b && (s.id_of p == t)) waits ∙ is) in
-      let same : s.id_of p ≡ t = grind (arith, nat_tests, is) in
-      let none : at os ≡ 0 = none_at os (ap (λ n. under s n os) (sym same) ∙ (from.0 waits).none) in
-      let now : at new ≡ 1 = ap at one ∙ at_one (s.id_of p, ask.0) true is in
-      record { count = omega (arith, h.count, more_one asks_at (sent_of past) p here, ap at opens, at_append os new, now); one = omega (arith, none, now, ap at opens, at_append os new) })
-      (λ other_id.
-      let not : asks_at p ≡ false = ap (λ b. b && (s.waits p && (s.id_of p == t))) request ∙ (ap (λ b. b && (s.id_of p == t)) waits ∙ other_id) in
-      let now : at new ≡ 0 = ap at one ∙ at_one (s.id_of p, ask.0) false other_id in
-      record { count = omega (arith, h.count, past_one asks_at (sent_of past) p not, ap at opens, at_append os new, now); one = omega (arith, h.one, now, ap at opens, at_append os new) }))
-      (λ silent.
-      let not : asks_at p ≡ false = ap (λ b. b && (s.waits p && (s.id_of p == t))) request ∙ ap (λ b. b && (s.id_of p == t)) silent in
-      let now : at new ≡ 0 = ap at (is_new ∙ ap (λ b. cond b ((s.id_of p, ask.0) ∷ []) []) silent) in
-      record { count = omega (arith, h.count, past_one asks_at (sent_of past) p not, ap at opens, at_append os new, now); one = omega (arith, h.one, now, ap at opens, at_append os new) }))
+      by_test (asks_under s t p)
+      (λ here.
+      let ask = some_ask (length (requests_of s past)) asks (omega (arith, enough, count)) in
+      let both : (s.waits p && (s.id_of p == t)) ≡ true = rest_of (s.is_request p) (s.waits p && (s.id_of p == t)) here in
+      let waits : s.waits p ≡ true = first_of (s.waits p) (s.id_of p == t) both in
+      let is : (s.id_of p == t) ≡ true = rest_of (s.waits p) (s.id_of p == t) both in
+      let one : new ≡ (s.id_of p, ask.0) ∷ [] = ap (opened s p) ask.2 ∙ ap (λ b. cond b ((s.id_of p, ask.0) ∷ []) []) waits in
+      omega (arith, few (is_open_under s t (Sent p ∷ past)), ap at opens, at_append os new, ap at one, at_one (s.id_of p, ask.0) true is))
+      (λ away.
+      let now : is_open_under s t (Sent p ∷ past) ≡ is_open_under s t past = ap (λ b. b || is_open_under s t past) away in
+      omega (arith, h, ap at opens, at_append os new, ap num now)))
       (λ other.
       let requests : requests_of s (Sent p ∷ past) ≡ requests_of s past = filter_no s.is_request (sent_of past) p other in
-      let h = turns most asks past (omega (arith, few, ap length requests)) from.1 in
+      let h = stands asks past (omega (arith, enough, ap length requests)) in
       let opens : open_of s asks (Sent p ∷ past) ≡ os = ap (λ b. cond b (os ++ new) os) other in
-      let not : asks_at p ≡ false = ap (λ b. b && (s.waits p && (s.id_of p == t))) other in
-      record { count = omega (arith, h.count, past_one asks_at (sent_of past) p not, ap at opens); one = omega (arith, h.one, ap at opens) })
+      let away : asks_under s t p ≡ false = ap (λ b. b && (s.waits p && (s.id_of p == t))) other in
+      let now : is_open_under s t (Sent p ∷ past) ≡ is_open_under s t past = ap (λ b. b || is_open_under s t past) away in
+      omega (arith, h, ap at opens, ap num now))
 
-pub in_turn : {A Q R : Type 0} (s : WireFormat Item A Q R) (most : ℕ) (asks : List A) (past : List (Event Item)) → Encoded s asks (requests_of s past) → AskedFrom s most asks past
-    → (t : ℕ) → count_by (asks_at s t) (sent_of past) ≤ count_by (answers_at s t) (got_of past) + 1
-in_turn s most asks past encoded from t =
-    let h = turns s t most asks past (encoded_few s asks (requests_of s past) encoded) from in
-    omega (arith, h.count, h.one)
+  -- where none is open among the requests, none is by the packets
+  closed : (asks : List Want) (past : List (Event Item)) → length (requests_of s past) ≤ length asks → at (open_of s asks past) ≡ 0 → is_open_under s t past ≡ false
+  closed asks past enough none =
+      by_test (is_open_under s t past)
+      (λ held. absurd (omega (arith, stands asks past enough, none, ap num held)))
+      (λ is. is)
+
+module _ (s : WireFormat Item Want Ask Reply) (most : ℕ) (asks : List Want) where
+  asked_until : (later before : List (Event Item)) → AskedFrom s most asks (later ++ before) → AskedFrom s most asks before
+  asked_until [] before from = from
+  asked_until (Sent p ∷ later) before from = asked_until later before from.1
+  asked_until (Got p ∷ later) before from = asked_until later before from
+  asked_until (Empty ∷ later) before from = asked_until later before from
+  asked_until (Marked ∷ later) before from = asked_until later before from
+  asked_until (Saw ∷ later) before from = asked_until later before from
+
+  -- each packet that awaits an answer has an id of the table
+  pub has_ids : (past : List (Event Item)) → AskedFrom s most asks past → HasIds s most (sent_of past)
+  has_ids [] from = tt
+  has_ids (Sent p ∷ past) from = all_last (λ i. s.waits i ≡ true → (1 ≤ s.id_of i) × (s.id_of i ≤ most)) (sent_of past) p (has_ids past from.1) (λ waits. ((from.0 waits).least, (from.0 waits).within))
+  has_ids (Got p ∷ past) from = has_ids past from
+  has_ids (Empty ∷ past) from = has_ids past from
+  has_ids (Marked ∷ past) from = has_ids past from
+  has_ids (Saw ∷ past) from = has_ids past from
+
+  -- a past before has no more requests
+  fewer_before : (later before : List (Event Item)) → length (requests_of s before) ≤ length (requests_of s (later ++ before))
+  fewer_before [] before = omega arith
+  fewer_before (Got p ∷ later) before = fewer_before later before
+  fewer_before (Empty ∷ later) before = fewer_before later before
+  fewer_before (Marked ∷ later) before = fewer_before later before
+  fewer_before (Saw ∷ later) before = fewer_before later before
+  fewer_before (Sent p ∷ later) before =
+      let past = later ++ before in
+      by_test (s.is_request p)
+      (λ request. omega (arith, fewer_before later before, ap length (filter_yes s.is_request (sent_of past) p request), length-append (requests_of s past) (p ∷ [])))
+      (λ other. omega (arith, fewer_before later before, ap length (filter_no s.is_request (sent_of past) p other)))
+
+  pub in_turn : (past : List (Event Item)) → Encoded s asks (requests_of s past) → AskedFrom s most asks past → GoesInTurn s past
+  in_turn past encoded from t later before p is here =
+      let until : AskedFrom s most asks (Sent p ∷ before) = asked_until later (Sent p ∷ before) (subst (AskedFrom s most asks) is from) in
+      let both : (s.waits p && (s.id_of p == t)) ≡ true = rest_of (s.is_request p) (s.waits p && (s.id_of p == t)) here in
+      let same : s.id_of p ≡ t = grind (arith, nat_tests, rest_of (s.waits p) (s.id_of p == t) both) in
+      let free : GoesFree s most asks p before = until.0 (first_of (s.waits p) (s.id_of p == t) both) in
+      let none : at s t (open_of s asks before) ≡ 0 = none_at s t (open_of s asks before) (ap (λ n. under s n (open_of s asks before)) (sym same) ∙ free.none) in
+      let enough = encoded_few s asks (requests_of s past) encoded in
+      closed s t asks before (omega (arith, enough, ap (λ (l : List (Event Item)). length (requests_of s l)) is, fewer_before later (Sent p ∷ before), fewer_before (Sent p ∷ []) before)) none

@@ -1,14 +1,17 @@
 -- The two workers of a channel, and what they come to.
 use Rattle.std.specs.Prelude.{ℕ, ◌≡◌, ◌<◌, ◌≤◌, ◌⊎◌, Bool, true, false, List, [], ◌∷◌, length, map, filter, take, Option, Some, None, is_some}
+use Rattle.page_kept.specs.declared.item.Item.{Item}
+use Rattle.ring_pair_laws.specs.Lists.{Lists}
 use Rattle.ring_seat.specs.declared.table_seat.TableSeat.{TableSeat}
 use Rattle.std.specs.List.{AllByRecursion, filter_map}
 use Rattle.bus_model.specs.Orders.{Order, startup_of}
 use Rattle.device_kinds.specs.Served.{Served}
-use Rattle.bus_model.specs.Channel.{IsChannelRun, served_count, is_held, other, replies_to}
+use Rattle.bus_model.specs.Channel.{IsChannelRun, served_count, is_held, other, replies_to, sent_by}
 use Rattle.script_lines.specs.declared.line.Ask.{Ask}
 use Rattle.bus_script.specs.declared.outcome.Reply.{Reply}
-use Rattle.device_formats.specs.Formats.{has_answer_on}
+use Rattle.device_formats.specs.Formats.{format_of, has_answer_on}
 use Rattle.device_formats.specs.ChannelScript.{ChannelScript}
+use Rattle.device_formats.specs.declared.want.Want.{Want}
 use Rattle.device_formats.specs.Wants.{IsAskable, no_lists}
 use Rattle.device_formats.specs.declared.buffer_lists.BufferLists.{BufferLists}
 use Rattle.device_any.specs.Seats.{served_at, IsSameSeat}
@@ -23,6 +26,7 @@ use Rattle.worker_pair.specs.declared.worker.Worker.TheVariants.{Asks, Serves}
 use Rattle.io_edge.specs.declared.side.Side.{Side}
 use Rattle.io_edge.specs.declared.side.Side.TheVariants.{Guest, Host}
 use Rattle.channel_model.specs.Roles.{side_that_asks}
+use Rattle.channel_model.specs.WireFormat.{WireFormat}
 use Rattle.worker_requester.specs.Asking.{Asking}
 use Rattle.worker_server.specs.Serving.{Serving, calls_behind}
 use Rattle.worker_port.specs.declared.ended.Ended.{Ended}
@@ -148,12 +152,24 @@ KeepsSeats (Asks a) (Serves s) guest host = (guest ≡ None) × ComesBack s.resp
 KeepsSeats (Serves s) (Asks a) guest host = ComesBack s.responder.seat guest × (host ≡ None)
 KeepsSeats (Serves s) (Serves t) guest host = ⊥
 
--- both workers of a pair ended where their plans end, with their seats; and for each order that the pair was opened for, it has run, behind the calls that the
+-- each packet that awaits an answer has an id from 1 to so many
+abbrev pub HasIds : WireFormat Item Want Ask Reply → ℕ → List Item → Type 0
+HasIds s most sent = AllByRecursion (λ p. s.waits p ≡ true → (1 ≤ s.id_of p) × (s.id_of p ≤ most)) sent
+
+-- the end that asks sent its requests so, as many as can be open
+abbrev pub KeepsIds : Worker → Worker → Lists → Type 0
+KeepsIds (Asks a) (Asks b) lists = ⊥
+KeepsIds (Asks a) (Serves s) lists = HasIds (format_of a.protocol.kind) (length a.table) (sent_by Guest lists)
+KeepsIds (Serves s) (Asks a) lists = HasIds (format_of a.protocol.kind) (length a.table) (sent_by Host lists)
+KeepsIds (Serves s) (Serves t) lists = ⊥
+
+-- both workers of a pair ended where their plans end, with their seats; requests had the ids that a request can have; and for each order that the pair was opened for, it has run, behind the calls that the
 -- seat had made before, and what the start-up of its channel told are the pair's page lists
 pub record RunsPair (p : Pairing) (done : PairDone) : Type 0 where
   pub guest : is_whole done.guest ≡ true
   pub host : is_whole done.host ≡ true
   pub seats : KeepsSeats p.guest p.host (at_guest done.guest_seat) (at_host done.host_seat)
+  pub ids : KeepsIds p.guest p.host done.settled
   pub runs : (order : Order) (seat : DeviceSeat) (earlier : List Served) → OpensBehind order seat earlier p → RanBehind order seat earlier done
   pub tells : (order : Order) (seat : DeviceSeat) (earlier : List Served) → (opens : OpensBehind order seat earlier p) → (runs order seat earlier opens).channel.tells ≡ lists_of p
 

@@ -15,14 +15,18 @@ use crate::table_seat::TableSeat;
 use ring_core::Packets;
 use std::alloc::AllocError;
 use std::marker::Model;
+use std::snapshot::Snapshot;
 
-/// The four lists of packets of a channel's two ends, with the page words of each packet. `finish` alone makes it.
+/// The four lists of packets of a channel's two ends, with the page words of each packet; and, for contracts alone, what each end did. `finish` alone makes it.
 #[derive(Drop)]
 pub struct Settled {
     guest_sent: Packets,
     guest_got: Packets,
     host_sent: Packets,
     host_got: Packets,
+    // The ends that `finish` had: they take no memory.
+    guest: Snapshot<GuestEnd>,
+    host: Snapshot<HostEnd>,
 }
 
 impl Model for Settled {
@@ -31,7 +35,7 @@ impl Model for Settled {
 
     ghost Value = { Lists };
 
-    ghost view = { λ s. record { guest_sent = s.guest_sent.list; guest_got = s.guest_got.list; host_sent = s.host_sent.list; host_got = s.host_got.list; guest_sent_items = items_of s.guest_sent.list s.guest_sent.lent; guest_got_items = items_of s.guest_got.list s.guest_got.lent; host_sent_items = items_of s.host_sent.list s.host_sent.lent; host_got_items = items_of s.host_got.list s.host_got.lent } };
+    ghost view = { λ s. record { guest_sent = s.guest_sent.list; guest_got = s.guest_got.list; host_sent = s.host_sent.list; host_got = s.host_got.list; guest_sent_items = items_of s.guest_sent.list s.guest_sent.lent; guest_got_items = items_of s.guest_got.list s.guest_got.lent; host_sent_items = items_of s.host_sent.list s.host_sent.lent; host_got_items = items_of s.host_got.list s.host_got.lent; guest_past = s.guest.value.state.past; host_past = s.host.value.state.past } };
 }
 
 impl Settled {
@@ -97,7 +101,10 @@ pub fn finish(g: GuestEnd, h: HostEnd) -> Settled
     ensures host_pages { h.state.pages.count ≢ 0 → h.state.pages.due ≡ Clear → ItemsGot h.state.machine.drained result.host_got result.host_got_items result.guest_sent result.guest_sent_items }
     ensures guest_past { (result.guest_sent ≡ sent_of g.state.past) × (result.guest_got ≡ got_of g.state.past) }
     ensures host_past { (result.host_sent ≡ sent_of h.state.past) × (result.host_got ≡ got_of h.state.past) }
+    ensures pasts { (result.guest_past ≡ g.state.past) × (result.host_past ≡ h.state.past) }
 {
+    let guest_end = Snapshot::of(&g);
+    let host_end = Snapshot::of(&h);
     let (guest, guest_sent, guest_got) = g.into_parts();
     let (host, host_sent, host_got) = h.into_parts();
     settle(guest, host);
@@ -106,6 +113,8 @@ pub fn finish(g: GuestEnd, h: HostEnd) -> Settled
         guest_got,
         host_sent,
         host_got,
+        guest: guest_end,
+        host: host_end,
     }
 }
 

@@ -11,6 +11,7 @@ returns c = runs_pair c.args.pair.now.value.guest c.args.pair.now.value.host c.a
   guest_lists = c.finish.ensures.guest;
   host_lists = c.finish.ensures.host;
   fronts = c.finish.ensures.fronts;
+  pasts = c.finish.ensures.pasts;
   guest_items = c.finish.ensures.guest_items;
   host_items = c.finish.ensures.host_items;
   item_fronts = c.finish.ensures.item_fronts;
