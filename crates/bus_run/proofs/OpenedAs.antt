@@ -1,14 +1,18 @@
 -- The channels of a phase were opened as the lines say, and what was carried is what their workers left.
 use Rattle.vmbus_msg.specs.declared.msg.Msg.{Msg}
-use Rattle.std.proofs.Common.{◌≡◌, ℕ, ◌≤◌, List, [], ◌∷◌, ◌++◌, length, append_assoc, drop, ap, sym, ◌∙◌, subst, arith, slice_index_or}
+use Rattle.std.proofs.Common.{◌≡◌, ℕ, ◌≤◌, List, [], ◌∷◌, ◌++◌, length, append_assoc, drop, ap, refl, sym, true, ◌∙◌, subst, arith, slice_index_or}
 use Rattle.std.specs.Prelude.{map}
 use Rattle.std.specs.List.{AllByRecursion, flat_map}
 use Rattle.std.proofs.lemmas.List.{append-nil, map-append, length-drop}
 use Rattle.std.proofs.lemmas.Grind.{flat_map-append}
 use Rattle.script_lines.specs.declared.line.Line.{Line}
+use Rattle.script_lines.specs.declared.line.DeviceSpec.{DeviceSpec}
+use Rattle.script_lines.specs.declared.line.DeviceSpec.TheVariants.{Beat, Down, Disk, Net}
+use Rattle.script_lines.specs.Parts.{kind_of}
 use Rattle.script_phases.specs.Openings.{Opening, Phase, by_relid}
 use Rattle.control_model.specs.Plan.{phase_of}
-use Rattle.control_model.specs.Openings.{plan_of}
+use Rattle.control_model.specs.declared.opening.Opening.{Opening as PlanOpening}
+use Rattle.control_model.specs.Openings.{has_buffers, plan_of}
 use Rattle.control_run.specs.Told.{IsSaidToStart}
 use Rattle.bus_model.specs.Orders.{order_of}
 use Rattle.bus_model.specs.declared.channel_run.ChannelRun.{ChannelRun}
@@ -20,7 +24,7 @@ use Rattle.bus_threads.specs.declared.pair.PairDone.{PairDone}
 use Rattle.bus_run.specs.Channels.{CanRun, IsOf}
 use Rattle.bus_run.specs.Closing.{RanAt}
 use Rattle.bus_run.specs.Opened.{AllRanAsSet, AreOpenAt, HaveLeft, HaveWorked, IsOpenAt, IsOpenedAs, IsPlanned, RanAsSet, Worked}
-use Rattle.bus_run.specs.Opening.{AllOpened, Given, IsOpenedWith, OpensAt, lists_in}
+use Rattle.bus_run.specs.Opening.{AllOpened, Given, IsOpenedWith, OpensAt, lists_in, lists_on, planned_lists, planned_on}
 use Rattle.device_any.specs.Boxes.{EachWith}
 use Rattle.device_any.specs.declared.device_box.DeviceBox.{DeviceBox}
 use Rattle.bus_run.specs.Settings.{SettingsOf, unset}
@@ -60,6 +64,13 @@ have_worked phase posted settings p old plan before seats pairs dones settled se
   left = subst (HaveLeft settled settled') (sym left_is) left;
 }
 
+-- where a network's lists are the plan's, those of any channel are
+as_planned : (spec : DeviceSpec) (posted : List Msg) (relid : ℕ) (o : PlanOpening) → (has_buffers spec ≡ true → lists_in posted relid ≡ planned_lists o) → lists_on (kind_of spec) posted relid ≡ planned_on (kind_of spec) o
+as_planned Beat posted relid o planned = refl
+as_planned Down posted relid o planned = refl
+as_planned (Disk blocks subs) posted relid o planned = refl
+as_planned (Net mac station) posted relid o planned = planned refl
+
 -- and that is what the lines set, and what the control path's plan has
 opened_as : (lines : List Line) (devices : ℕ) (posted : List Msg) (settings : List Settings) (p : Phase) (os : List Opening) (pairs : List Pairing) → SettingsOf lines devices settings → TellsPlanned (plan_of lines) p.number posted
     → AllByRecursion (IsPlanned (phase_of (plan_of lines) p.number)) os → EachOf (IsOpenAt posted settings p) os pairs → EachOf (IsOpenedAs posted lines p) os pairs
@@ -71,7 +82,7 @@ opened_as lines devices posted settings p (o ∷ os) (q ∷ pairs) are told plan
     seat = each.0.seat;
     opened = subst (λ s. IsOpenedWith posted s o.relid (order_of p o) each.0.seat q) (are.each o.device (omega (arith, each.0.within, are.count))) each.0.opened;
     planned = planned.0;
-    lists = λ has. each.0.opened.lists ∙ (ap (lists_in posted) (sym planned.0.relid) ∙ told planned.0.place planned.0.opening planned.0.is (planned.0.buffers ∙ has));
+    lists = each.0.opened.lists ∙ as_planned o.spec posted o.relid planned.0.opening (λ has. ap (lists_in posted) (sym planned.0.relid) ∙ told planned.0.place planned.0.opening planned.0.is (planned.0.buffers ∙ has));
   },
   opened_as lines devices posted settings p os pairs are told planned.1 each.1,
 )

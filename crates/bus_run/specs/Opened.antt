@@ -1,8 +1,9 @@
 -- How the channels of a phase were opened, and what they left.
 use Rattle.vmbus_msg.specs.declared.msg.Msg.{Msg}
-use Rattle.std.specs.Prelude.{◌≡◌, ℕ, ◌<◌, true, List, [], ◌∷◌, ◌++◌, length, map, slice_get, slice_index_or, Some}
+use Rattle.std.specs.Prelude.{◌≡◌, ℕ, ◌<◌, List, [], ◌∷◌, ◌++◌, length, map, slice_get, slice_index_or, Some}
 use Rattle.std.specs.List.{flat_map}
 use Rattle.script_lines.specs.declared.line.Line.{Line}
+use Rattle.script_lines.specs.Parts.{kind_of}
 use Rattle.control_model.specs.declared.opening.Opening.{Opening as PlanOpening}
 use Rattle.control_model.specs.Plan.{phase_of}
 use Rattle.control_model.specs.Openings.{has_buffers, plan_of}
@@ -14,7 +15,7 @@ use Rattle.bus_plan.specs.Plans.{EachOf}
 use Rattle.bus_threads.specs.Pairs.{EachRuns, Pairing, lists_of}
 use Rattle.bus_threads.specs.declared.pair.PairDone.{PairDone}
 use Rattle.device_any.specs.declared.device_seat.DeviceSeat.{DeviceSeat}
-use Rattle.bus_run.specs.Opening.{IsOpenedWith, planned_lists}
+use Rattle.bus_run.specs.Opening.{IsOpenedWith, planned_on}
 use Rattle.device_any.specs.Boxes.{EachWith}
 use Rattle.bus_run.specs.Settings.{settings_of, unset}
 use Rattle.bus_run.specs.declared.settings.Settings.{Settings}
@@ -43,12 +44,12 @@ pub record IsPlanned (openings : List PlanOpening) (o : Opening) : Type 0 where
   pub buffers : opening.buffers ≡ has_buffers o.spec
 
 -- this channel of a phase was opened for what the phase orders of it: each of its rings has as many pages, and as many of its requests can be open, as the lines
--- set for its device. A network's guest tells the page lists that the plan of the control path has for the channel's buffers
+-- set for its device. A network's guest tells the page lists that the plan of the control path has for the channel's buffers, and any other tells none
 pub record IsOpenedAs (posted : List Msg) (lines : List Line) (p : Phase) (o : Opening) (pair : Pairing) : Type 0 where
   pub seat : DeviceSeat
   pub opened : IsOpenedWith posted (settings_of lines o.device) o.relid (order_of p o) seat pair
   pub planned : IsPlanned (phase_of (plan_of lines) p.number) o
-  pub lists : has_buffers o.spec ≡ true → lists_of pair ≡ planned_lists planned.opening
+  pub lists : lists_of pair ≡ planned_on (kind_of o.spec) planned.opening
 
 -- so was each channel of the phase, in order of relid
 abbrev pub AreOpenedAs : List Msg → List Line → Phase → List Pairing → Type 0

@@ -2,12 +2,14 @@
 use Rattle.std.specs.Prelude.{ℕ, ◌≡◌, ◌*◌, ◌<◌, ◌≤◌, ◌==◌, List, [], ◌∷◌, ◌++◌, length, map, filter, sum, slice_index_or, Some, None}
 use Rattle.std.specs.List.{AllByRecursion}
 use Rattle.contact.specs.declared.kind.DeviceKind.{DeviceKind}
+use Rattle.contact.specs.declared.kind.DeviceKind.TheVariants.{Beat, Down, Disk, Net}
 use Rattle.worker_pair.specs.Plans.{stop_of}
 use Rattle.device_any.specs.Seats.{kind_at}
 use Rattle.device_any.specs.declared.device_seat.DeviceSeat.{DeviceSeat}
 use Rattle.bus_model.specs.Orders.{Order}
 use Rattle.bus_threads.specs.Pairs.{Pairing, AreOnChannel, Opens, lists_of}
 use Rattle.device_formats.specs.declared.buffer_lists.BufferLists.{BufferLists}
+use Rattle.device_formats.specs.Wants.{no_lists}
 use Rattle.control_model.specs.declared.opening.Opening.{Opening as PlanOpening}
 use Rattle.control_model.specs.declared.buffer.Buffer.TheVariants.{Receive, Send}
 use Rattle.control_model.specs.Plan.{buffer_list}
@@ -72,15 +74,29 @@ pub record IsStill (old new : DeviceBox) : Type 0 where
 abbrev pub lists_in : List Msg → ℕ → BufferLists
 lists_in posted relid = record { receive = (lists_told relid (0, 0) posted).0; send = (lists_told relid (0, 0) posted).1 }
 
+-- those that are told on a channel of this kind: a network's alone has buffers
+abbrev pub lists_on : DeviceKind → List Msg → ℕ → BufferLists
+lists_on Beat posted relid = no_lists
+lists_on Down posted relid = no_lists
+lists_on Disk posted relid = no_lists
+lists_on Net posted relid = lists_in posted relid
+
 -- the page lists that a plan has for a channel's buffers
 abbrev pub planned_lists : PlanOpening → BufferLists
 planned_lists o = record { receive = buffer_list o Receive; send = buffer_list o Send }
 
--- a channel was opened as the settings say and as was ordered, with this seat. What its guest tells of its buffers are the page lists that stand in what the guest's control posted
+-- and for a channel of this kind
+abbrev pub planned_on : DeviceKind → PlanOpening → BufferLists
+planned_on Beat o = no_lists
+planned_on Down o = no_lists
+planned_on Disk o = no_lists
+planned_on Net o = planned_lists o
+
+-- a channel was opened as the settings say and as was ordered, with this seat. What a network's guest tells of its buffers are the page lists that stand in what the guest's control posted, and on any other channel it tells none
 pub record IsOpenedWith (posted : List Msg) (settings : Settings) (relid : ℕ) (order : Order) (seat : DeviceSeat) (pair : Pairing) : Type 0 where
   pub opens : Opens order seat pair
   pub channel : AreOnChannel relid (512 * settings.pages) (pages_on order.kind settings.window) settings.window pair
-  pub lists : lists_of pair ≡ lists_in posted relid
+  pub lists : lists_of pair ≡ lists_on order.kind posted relid
 
 -- a channel and the seat that it has
 pub record Given : Type 0 where

@@ -5,11 +5,12 @@ ghost use Rattle.bus_run.specs.Devices.{IsReady, Suits};
 ghost use Rattle.device_any.specs.Boxes.{IsKept, box_log};
 ghost use Rattle.device_any.specs.declared.device_box.DeviceBox.{DeviceBox as OneBox};
 ghost use Rattle.bus_run.specs.Settings.{HasLimits};
-ghost use Rattle.bus_run.specs.Opening.{AreAway, IsAway, CanOpenAll, IsOpenedWith, AllOpened, lists_in, order_with, quotas_of};
+ghost use Rattle.bus_run.specs.Opening.{AreAway, IsAway, CanOpenAll, IsOpenedWith, AllOpened, lists_on, order_with, quotas_of};
 
 use crate::settings::Settings;
 use bus_plan::ChannelOrder;
 use bus_threads::{Pair, open_pair};
+use contact::DeviceKind;
 use control_run::ControlPath;
 use device_any::{DeviceBox, DeviceSeat};
 use device_formats::BufferLists;
@@ -71,12 +72,17 @@ pub fn share_all(
     Ok(())
 }
 
-/// The page lists of a channel's buffers, as the guest's control told the host's.
-fn told_lists(path: &ControlPath, relid: u32) -> BufferLists
-    ensures { result ≡ lists_in path.now.guest.posted relid }
+/// The page lists of a network's buffers, as the guest's control told the host's. A channel of another kind has none.
+fn told_lists(kind: DeviceKind, path: &ControlPath, relid: u32) -> BufferLists
+    ensures { result ≡ lists_on kind path.now.guest.posted relid }
 {
-    let (receive, send) = path.last_lists(relid);
-    BufferLists { receive, send }
+    match kind {
+        DeviceKind::Beat | DeviceKind::Down | DeviceKind::Disk => BufferLists::NONE,
+        DeviceKind::Net => {
+            let (receive, send) = path.last_lists(relid);
+            BufferLists { receive, send }
+        }
+    }
 }
 
 /// The two workers of a channel, with this seat of its device, which has so many channels beside the first one, and with the page lists of its buffers that the guest's control told. The device's end stops where the order says,
@@ -98,7 +104,7 @@ fn open_channel(
     ensures { IfOk result (IsOpenedWith path.now.guest.posted settings.now channel.opening.relid (order_with channel (kind_at seat) subs) seat) }
 {
     let kind = seat.kind();
-    let lists = told_lists(path, channel.opening.relid);
+    let lists = told_lists(kind, path, channel.opening.relid);
     open_pair(
         alloc,
         kind,
