@@ -20,7 +20,7 @@ use Rattle.device_kinds.specs.Served.{Served}
 use Rattle.bus_model.specs.Orders.{Order, startup_of, plan_of}
 use Rattle.script_phases.specs.Openings.{Phase, Opening}
 use Rattle.bus_model.specs.Orders.{order_of}
-use Rattle.bus_model.specs.Channel.{Carries, InTurn, ItemsArrive, asked_under, asks_under, events_by, got_by, is_of_asker, items_of, other, replies_to, sent_by, served_count}
+use Rattle.bus_model.specs.Channel.{Carries, InTurn, ItemsArrive, MessagesInTurn, acks_under, answers_under, asked_under, asks_under, events_by, got_by, is_of_asker, items_of, messages_under, other, replies_to, sent_by, served_count}
 use Rattle.bus_model.specs.Run.{Carried, IsCarried}
 use Rattle.bus_model.specs.Laws.{Suits, OrdersRun}
 use Rattle.bus_model.proofs.Made.{AllSo, Fit, Made, made, so_same}
@@ -140,7 +140,15 @@ turn_at : (order : Order) (sent back : List Item) → ReadAs (side_that_asks ord
 turn_at order sent back read one =
     let side = side_that_asks order.kind in
     let lists = lists_of side sent back in
-    goes_once (format_of order.kind) (events_by side lists) (λ t. omega (arith, one t, ap (count_by (asks_under (format_of order.kind) t)) (events_sent side lists (moments_at side sent back) ∙ read.sent_is)))
+    let s = format_of order.kind in
+    goes_once (asks_under s) (answers_under s) (events_by side lists) (λ t. omega (arith, one t, ap (count_by (asks_under s t)) (events_sent side lists (moments_at side sent back) ∙ read.sent_is)))
+
+messages_at : (order : Order) (sent back : List Item) → ReadAs (side_that_asks order.kind) sent back → ((t : ℕ) → count_by (messages_under (format_of order.kind) t) back ≤ 1) → MessagesInTurn order (lists_of (side_that_asks order.kind) sent back)
+messages_at order sent back read one =
+    let side = side_that_asks order.kind in
+    let lists = lists_of side sent back in
+    let s = format_of order.kind in
+    goes_once (messages_under s) (acks_under s) (events_by (other side) lists) (λ t. omega (arith, one t, ap (count_by (messages_under s t)) (events_sent (other side) lists (moments_at side sent back) ∙ read.other_sent)))
 
 pub channel_made : OrdersRun
 channel_made order served suits =
@@ -158,6 +166,7 @@ channel_made order served suits =
         arrive = arrive_at side order m.sent m.back;
         moments = moments_at side m.sent m.back;
         turns = turn_at order m.sent m.back read m.turns;
+        messages = messages_at order m.sent m.back read m.messages;
       },
     )
 

@@ -1,5 +1,5 @@
 -- A page has one request at a time.
-use Rattle.std.proofs.Common.{◌≡◌, ◌≤◌, ◌+◌, ℕ, zero, suc, true, false, List, [], ◌∷◌, ◌++◌, filter, refl, sym, ap, ◌∙◌, subst, arith, append_assoc}
+use Rattle.std.proofs.Common.{◌≡◌, ◌≤◌, ◌+◌, ℕ, zero, suc, Bool, true, false, List, [], ◌∷◌, ◌++◌, filter, refl, sym, ap, ◌∙◌, subst, arith, append_assoc}
 use Rattle.std.specs.Prelude.{◌==◌, ◌&&◌, count_by}
 use Rattle.std.proofs.lemmas.Bool.Decides.{nat_tests}
 use Rattle.scsi_disk.proofs.RoomLaws.{by_test}
@@ -22,15 +22,28 @@ use Rattle.device_formats.specs.Formats.{format_of, lends_on}
 use Rattle.device_formats.proofs.FormatLaws.{keeps}
 use Rattle.device_formats.proofs.PageFormatLaws.{pages_kept}
 use Rattle.device_kinds.specs.Served.{Served}
-use Rattle.ring_pair_laws.specs.Lists.{Lists}
+use Rattle.io_edge.specs.declared.side.Side.{Side}
+use Rattle.ring_pair_laws.specs.Lists.{AreOfRun, Lists}
 use Rattle.bus_model.specs.Orders.{Order, plan_of}
-use Rattle.bus_model.specs.Channel.{GoesInTurn, IsChannelRun, answers_under, asks_under, events_by, is_open_under, sent_by}
+use Rattle.bus_model.specs.Channel.{GoesInTurn, IsChannelRun, answers_under, asks_under, events_by, sent_by}
 use Rattle.bus_model.specs.Laws.{LendsBy, LendsOne}
 use Rattle.bus_model.proofs.Turning.{events_sent, goes_until, stays_open}
 
-some_at_least : (n : ℕ) → (n ≡ 0 → ⊥) → 1 ≤ n
+pub some_at_least : (n : ℕ) → (n ≡ 0 → ⊥) → 1 ≤ n
 some_at_least zero f = absurd (f refl)
 some_at_least (suc n) f = omega arith
+
+-- two aren't sent under one id where nothing between them closes it
+pub both_open : {X : Type 0} (opens closes : ℕ → Item → Bool) (t : ℕ) (events later between before : List (Event Item)) (first second : Item) → events ≡ later ++ Sent second ∷ (between ++ Sent first ∷ before) → GoesInTurn opens closes events
+    → opens t first ≡ true → opens t second ≡ true → count_by (closes t) (got_of between) ≡ 0 → X
+both_open opens closes t events later between before first second is turns one two none =
+    let until : GoesInTurn opens closes (between ++ Sent first ∷ before) = goes_until opens closes (later ++ Sent second ∷ []) (between ++ Sent first ∷ before) (subst (GoesInTurn opens closes) (is ∙ sym (append_assoc later (Sent second ∷ []) (between ++ Sent first ∷ before))) turns) in
+    let held = (stays_open opens closes t between before first until one none).held in
+    absurd (let bad : true ≡ false = sym held ∙ turns t later (between ++ Sent first ∷ before) second is two in cc)
+
+-- what was sent before a packet, and behind it
+pub sent_around : (side : Side) (lists : Lists) → AreOfRun lists → (later before : List (Event Item)) (p : Item) → events_by side lists ≡ later ++ Sent p ∷ before → sent_by side lists ≡ sent_of before ++ p ∷ sent_of later
+sent_around side lists run later before p is = sym (events_sent side lists run) ∙ (ap sent_of is ∙ (sent_of-append later (Sent p ∷ before) ∙ append_assoc (sent_of before) (p ∷ []) (sent_of later)))
 
 module _ (s : WireFormat Item Want Ask Reply) where
   first_encoded : (asks : List Want) (p : Item) (ps : List Item) → Encoded s asks (p ∷ ps) → (a : Want) × (p ≡ s.encode (s.id_of p) a)
@@ -58,11 +71,10 @@ module _ (s : WireFormat Item Want Ask Reply) where
 
 module _ (order : Order) (lists : Lists) (served : List Served) (run : IsChannelRun order lists served) (lends : lends_on order.kind ≡ true) where
   -- a request lends the page of its id
-  own_page : (later before : List (Event Item)) (p : Item) (l : Lent) → events_by (side_that_asks order.kind) lists ≡ later ++ Sent p ∷ before → LendsBy order.kind p l → l.page + 1 ≡ (format_of order.kind).id_of p
+  pub own_page : (later before : List (Event Item)) (p : Item) (l : Lent) → events_by (side_that_asks order.kind) lists ≡ later ++ Sent p ∷ before → LendsBy order.kind p l → l.page + 1 ≡ (format_of order.kind).id_of p
   own_page later before p l is by =
       let s = format_of order.kind in
-      let sent : sent_by (side_that_asks order.kind) lists ≡ sent_of before ++ p ∷ sent_of later =
-      sym (events_sent (side_that_asks order.kind) lists run.moments) ∙ (ap sent_of is ∙ (sent_of-append later (Sent p ∷ before) ∙ append_assoc (sent_of before) (p ∷ []) (sent_of later))) in
+      let sent = sent_around (side_that_asks order.kind) lists run.moments later before p is in
       let one = encoded_at s (asks_of s (plan_of run.tells order)) (sent_of before) (sent_of later) p by.asks (subst (λ (l : List Item). Encoded s (asks_of s (plan_of run.tells order)) (filter s.is_request l)) sent run.carried.requests) in
       let has : s.has_answer one.0 ≡ true = sym ((keeps order.kind).waits_ask (s.id_of p) one.0) ∙ (ap s.waits (sym one.1) ∙ by.waits) in
       (pages_kept order.kind lends).lent (s.id_of p) one.0 l by.least by.within has (ap (λ (i : Item). lent_of i.packet) (sym one.1) ∙ by.lent)
@@ -77,10 +89,7 @@ module _ (order : Order) (lists : Lists) (served : List Served) (run : IsChannel
       let two = own_page later (between ++ Sent first ∷ before) second m is too in
       let id : s.id_of second ≡ t = omega (arith, one, two, same) in
       some_at_least (count_by (answers_under s t) (got_of between)) (λ none.
-      let goes : GoesInTurn s (between ++ Sent first ∷ before) = goes_until s (later ++ Sent second ∷ []) (between ++ Sent first ∷ before) (subst (GoesInTurn s) (is ∙ sym (append_assoc later (Sent second ∷ []) (between ++ Sent first ∷ before))) run.turns) in
-      let held = (stays_open s t between before first goes (asks_at s first t by.asks by.waits refl) none).held in
-      let free : is_open_under s t (between ++ Sent first ∷ before) ≡ false = run.turns t later (between ++ Sent first ∷ before) second is (asks_at s second t too.asks too.waits id) in
-      absurd (let bad : true ≡ false = sym held ∙ free in cc))
+      both_open (asks_under s) (answers_under s) t (events_by (side_that_asks order.kind) lists) later between before first second is run.turns (asks_at s first t by.asks by.waits refl) (asks_at s second t too.asks too.waits id) none)
 
 pub lends_one_lem : LendsOne
 lends_one_lem order lists served run lends = taken_between order lists served run lends

@@ -1,5 +1,5 @@
 -- For each plan and for calls that fit it there are lists of a run: no field of a run excludes another one.
-use Rattle.std.proofs.Common.{◌≡◌, ℕ, zero, suc, ◌+◌, ◌<◌, ◌≤◌, ◌^◌, Bool, true, false, cond, List, [], ◌∷◌, ◌++◌, map, length, length-append, filter, refl, sym, ap, ◌∙◌, subst, arith, Some, None}
+use Rattle.std.proofs.Common.{◌≡◌, ℕ, zero, suc, ◌+◌, ◌<◌, ◌≤◌, ◌^◌, Bool, true, false, cond, List, [], ◌∷◌, ◌++◌, map, length, length-append, filter, refl, sym, ap, ◌∙◌, subst, arith, Option, Some, None}
 use Rattle.std.specs.Prelude.{◌==◌, ◌&&◌, ◌||◌, count_by, filter_map}
 use Rattle.std.specs.List.{AllByRecursion}
 use Rattle.std.proofs.lemmas.List.{append-nil}
@@ -9,7 +9,7 @@ use Rattle.std.proofs.lemmas.Bool.Decides.{nat_tests}
 use Rattle.scsi_disk.proofs.RoomLaws.{by_test}
 use Rattle.channel_trace.specs.Runs.{IsFront}
 use Rattle.hist_lock.specs.Seat.{Call}
-use Rattle.channel_model.specs.WireFormat.{WireFormat, Keeps, packets_of, packets_in}
+use Rattle.channel_model.specs.WireFormat.{WireFormat, Keeps, Back as WireBack, IsBack, IsBesides, listed, under_own, packets_of, packets_in}
 use Rattle.channel_model.specs.Acks.{acks_for}
 use Rattle.channel_model.proofs.Serving.{serves_idle}
 use Rattle.channel_model.specs.Asker.{Encoded}
@@ -172,24 +172,71 @@ module _ {P A Q R : Type 0} (said : P → P) (s : WireFormat P A Q R) (keeps : K
   fit_count (suc n) id (a ∷ asks) [] low fit = absurd fit
   fit_count (suc n) id (a ∷ asks) (c ∷ calls) low fit = ap suc (fit_count n (id + 1) asks calls (omega (arith, low)) fit.2)
 
-  -- what goes back for the script
-  record Back (held : Bool) (ps : List P) (n : ℕ) (calls : List (Call Q R)) : Type 0 where
+  -- a message went under this id
+  abbrev pub messages_at : ℕ → P → Bool
+  messages_at t p = s.is_message p && (s.id_of p == t)
+
+  -- under each id one of these messages went at most, and none under an id before this one
+  record GoApart (id : ℕ) (ps : List P) : Type 0 where
+    pub one : (t : ℕ) → count_by (messages_at t) ps ≤ 1
+    pub from : (t : ℕ) → t < id → count_by (messages_at t) ps ≡ 0
+
+  apart_none : (id : ℕ) → GoApart id []
+  apart_none id = record { one = λ t. omega arith; from = λ t low. refl }
+
+  -- what goes back for a packet has its message under the one id
+  answer_none : (t id : ℕ) (b : WireBack P) → IsBack s id b → count_by (messages_at t) (b.answer ∷ []) ≡ 0
+  answer_none t id b back = past (messages_at t) b.answer [] (ap (λ m. m && (s.id_of b.answer == t)) back.other)
+
+  message_one : (t own : ℕ) (o : Option (ℕ → P)) (rest : List P) → own < 2 ^ 64 → IsBesides s o → count_by (messages_at t) rest ≡ 0
+      → (count_by (messages_at t) (listed (under_own own o) ++ rest) ≤ 1) × ((own == t) ≡ false → count_by (messages_at t) (listed (under_own own o) ++ rest) ≡ 0)
+  message_one t own None rest low besides none = (omega (arith, none), λ other. none)
+  message_one t own (Some m) rest low besides none =
+      let same = (besides own).same low in (
+        by_test (messages_at t (m own))
+            (λ yes. omega (arith, here (messages_at t) (m own) rest yes, none))
+            (λ no. omega (arith, past (messages_at t) (m own) rest no, none)),
+        λ other.
+            let away : (s.id_of (m own) == t) ≡ false = ap (λ k. k == t) same ∙ other in
+            past (messages_at t) (m own) rest (ap (λ b. s.is_message (m own) && b) away ∙ right_off (s.is_message (m own))) ∙ none,
+      )
+
+  apart_more : (id own : ℕ) (b : WireBack P) (rest : List P) → own < 2 ^ 64 → IsBack s id b → GoApart (own + 1) rest → GoApart own (packets_of own b ++ rest)
+  apart_more id own b rest low back apart =
+      let two = λ (t : ℕ). message_one t own b.message (b.answer ∷ []) low back.besides (answer_none t id b back) in
+      let count = λ (t : ℕ). count_by-append (messages_at t) (packets_of own b) rest in
+      record {
+        one = λ t.
+            by_test (own == t)
+            (λ is. let less : t < own + 1 = grind (arith, nat_tests, is) in omega (arith, count t, (two t).0, apart.from t less))
+            (λ other. omega (arith, count t, (two t).1 other, apart.one t));
+        from = λ t less.
+            let other : (own == t) ≡ false = grind (arith, nat_tests, less) in
+            omega (arith, count t, (two t).1 other, apart.from t (omega (arith, less)));
+      }
+
+  apart_later : (id : ℕ) (ps : List P) → GoApart (id + 1) ps → GoApart id ps
+  apart_later id ps apart = record { one = apart.one; from = λ t less. apart.from t (omega (arith, less)) }
+
+  -- what goes back for the packets from this id on: each message under the id of its request
+  record Back (id : ℕ) (held : Bool) (ps : List P) (n : ℕ) (calls : List (Call Q R)) : Type 0 where
     pub sent : List P
     pub serves : Serves s held ps n calls sent
     pub as_read : AllSo said sent
+    pub apart : GoApart id sent
 
-  script_back : (held : Bool) (n id : ℕ) (asks : List A) (calls : List (Call Q R)) → AllAsk s asks → Fit n id asks calls → Back held (packets id asks) n calls
-  script_back held zero id [] calls ask fit = record { sent = []; serves = (fit, refl); as_read = tt }
-  script_back held (suc n) id [] calls ask fit = record { sent = []; serves = (fit, refl); as_read = tt }
-  script_back held zero id (a ∷ asks) calls ask fit =
+  script_back : (held : Bool) (n id : ℕ) (asks : List A) (calls : List (Call Q R)) → id + length asks ≤ 2 ^ 64 → AllAsk s asks → Fit n id asks calls → Back id held (packets id asks) n calls
+  script_back held zero id [] calls low ask fit = record { sent = []; serves = (fit, refl); as_read = tt; apart = apart_none id }
+  script_back held (suc n) id [] calls low ask fit = record { sent = []; serves = (fit, refl); as_read = tt; apart = apart_none id }
+  script_back held zero id (a ∷ asks) calls low ask fit =
       let p = s.encode id a in
       let q = ask.0 id in
-      record { sent = []; serves = subst (λ o. ServesOne s held p o zero calls [] (λ m later rest. Serves s held (packets (id + 1) asks) m later rest)) (sym q.1) (fit, refl); as_read = tt }
-  script_back held (suc n) id (a ∷ asks) [] ask fit = absurd fit
-  script_back held (suc n) id (a ∷ asks) (c ∷ calls) ask fit =
+      record { sent = []; serves = subst (λ o. ServesOne s held p o zero calls [] (λ m later rest. Serves s held (packets (id + 1) asks) m later rest)) (sym q.1) (fit, refl); as_read = tt; apart = apart_none id }
+  script_back held (suc n) id (a ∷ asks) [] low ask fit = absurd fit
+  script_back held (suc n) id (a ∷ asks) (c ∷ calls) low ask fit =
       let p = s.encode id a in
       let more = λ (m : ℕ) (later : List (Call Q R)) (rest : List P). Serves s held (packets (id + 1) asks) m later rest in
-      let on = script_back held n (id + 1) asks calls ask.1 fit.2 in
+      let on = script_back held n (id + 1) asks calls (omega (arith, low)) ask.1 fit.2 in
       let call : IsCall s c.request c = record { asked = refl; fits = fit.1 } in
       by_test (held && n == 0)
       (λ last.
@@ -198,15 +245,20 @@ module _ {P A Q R : Type 0} (said : P → P) (s : WireFormat P A Q R) (keeps : K
         sent = [];
         serves = subst (λ o. ServesOne s held p o (suc n) (c ∷ calls) [] more) (sym fit.0) (call, subst (λ b. ServesAsk s b p n c calls [] more) (sym last) (no_more n id asks calls none fit.2, refl));
         as_read = tt;
+        apart = apart_none id;
       })
       (λ no.
       record {
-        sent = packets_of 0 (s.gives p c.reply) ++ on.sent;
-        serves = subst (λ o. ServesOne s held p o (suc n) (c ∷ calls) (packets_of 0 (s.gives p c.reply) ++ on.sent) more) (sym fit.0)
-            (call, subst (λ b. ServesAsk s b p n c calls (packets_of 0 (s.gives p c.reply) ++ on.sent) more) (sym no) (0, on.sent, refl, on.serves));
-        as_read = so_append said (packets_of 0 (s.gives p c.reply)) on.sent (so.given p c.request c.reply 0 fit.0 fit.1) on.as_read;
+        sent = packets_of id (s.gives p c.reply) ++ on.sent;
+        serves = subst (λ o. ServesOne s held p o (suc n) (c ∷ calls) (packets_of id (s.gives p c.reply) ++ on.sent) more) (sym fit.0)
+            (call, subst (λ b. ServesAsk s b p n c calls (packets_of id (s.gives p c.reply) ++ on.sent) more) (sym no) (id, on.sent, refl, on.serves));
+        as_read = so_append said (packets_of id (s.gives p c.reply)) on.sent (so.given p c.request c.reply id fit.0 fit.1) on.as_read;
+        apart = apart_more (s.id_of p) id (s.gives p c.reply) on.sent (omega (arith, low)) (keeps.given p c.reply (reads_wait p c.request fit.0)) on.apart;
       })
     where
+      reads_wait : (p : P) (q : Q) → s.read p ≡ Some q → s.waits p ≡ true
+      reads_wait p q reads = by_test (s.waits p) (λ yes. yes) (λ no. let none : s.read p ≡ None = keeps.unread p no in absurd (cc))
+
       ends : (held : Bool) (n : ℕ) → (held && n == 0) ≡ true → n ≡ 0
       ends true n e = grind (arith, nat_tests, e)
       ends false n e = absurd (cc)
@@ -216,15 +268,24 @@ module _ {P A Q R : Type 0} (said : P → P) (s : WireFormat P A Q R) (keeps : K
       no_more (suc n) id asks calls e fit = absurd (omega (arith, e))
 
   -- and before it for the start-up
-  start_back : (held : Bool) (n id : ℕ) (start : List A) (ps : List P) (calls : List (Call Q R)) → AllFixed s start → Back held ps n calls → Back held (packets id start ++ ps) n calls
-  start_back held n id [] ps calls fixed back = back
-  start_back held n id (a ∷ start) ps calls fixed back =
+  start_apart : (p : P) (id : ℕ) (rest : List P) → id < 2 ^ 64 → s.read p ≡ None → GoApart (id + 1) rest → GoApart id (packets_in id (s.fixed p) ++ rest)
+  start_apart p id rest low none apart =
+      by_test (s.waits p)
+      (λ yes.
+      let is = keeps.fixes p yes none in
+      subst (λ (o : Option (WireBack P)). GoApart id (packets_in id o ++ rest)) (sym is.1) (apart_more (s.id_of p) id is.0 rest low is.2 apart))
+      (λ no. subst (λ (o : Option (WireBack P)). GoApart id (packets_in id o ++ rest)) (sym (keeps.silent p no)) (apart_later id rest apart))
+
+  start_back : (held : Bool) (n id : ℕ) (start : List A) (ps : List P) (calls : List (Call Q R)) → id + length start ≤ 2 ^ 64 → AllFixed s start → Back (id + length start) held ps n calls → Back id held (packets id start ++ ps) n calls
+  start_back held n id [] ps calls low fixed back = subst (λ i. Back i held ps n calls) (omega arith) back
+  start_back held n id (a ∷ start) ps calls low fixed back =
       let p = s.encode id a in
-      let on = start_back held n (id + 1) start ps calls fixed.1 back in
+      let on = start_back held n (id + 1) start ps calls (omega (arith, low)) fixed.1 (subst (λ i. Back i held ps n calls) (omega arith) back) in
       record {
-        sent = packets_in 0 (s.fixed p) ++ on.sent;
-        serves = subst (λ o. ServesOne s held p o n calls (packets_in 0 (s.fixed p) ++ on.sent) (λ m later rest. Serves s held (packets (id + 1) start ++ ps) m later rest)) (sym (fixed.0 id)) (0, on.sent, refl, on.serves);
-        as_read = so_append said (packets_in 0 (s.fixed p)) on.sent (so.fixed p 0) on.as_read;
+        sent = packets_in id (s.fixed p) ++ on.sent;
+        serves = subst (λ o. ServesOne s held p o n calls (packets_in id (s.fixed p) ++ on.sent) (λ m later rest. Serves s held (packets (id + 1) start ++ ps) m later rest)) (sym (fixed.0 id)) (id, on.sent, refl, on.serves);
+        as_read = so_append said (packets_in id (s.fixed p)) on.sent (so.fixed p id) on.as_read;
+        apart = start_apart p id on.sent (omega (arith, low)) (fixed.0 id) on.apart;
       }
 
   none_read : (id : ℕ) (start : List A) → AllFixed s start → filter_map s.read (packets id start) ≡ []
@@ -303,6 +364,7 @@ module _ {P A Q R : Type 0} (said : P → P) (s : WireFormat P A Q R) (keeps : K
     pub back : List P
     pub alone : Alone sent
     pub turns : (t : ℕ) → count_by (asks_at t) sent ≤ 1
+    pub messages : (t : ℕ) → count_by (messages_at t) back ≤ 1
     pub sent_so : AllSo said sent
     pub back_so : AllSo said back
     pub runs : IsProtocolRun s plan sent back back sent calls (map (λ c. c.reply) (answered s (held_of plan.stop (length plan.script)) (count_of plan.stop (length plan.script)) calls))
@@ -314,7 +376,8 @@ module _ {P A Q R : Type 0} (said : P → P) (s : WireFormat P A Q R) (keeps : K
       let held = held_of plan.stop (length plan.script) in
       let asked = packets 1 (asks_of s plan) in
       let two = packets_append 1 plan.start plan.script in
-      let back = start_back held n 1 plan.start (packets (1 + length plan.start) plan.script) calls is.fixed (script_back held n (1 + length plan.start) plan.script calls is.asks fit) in
+      let all_low : 1 + length plan.start + length plan.script ≤ 2 ^ 64 = omega (arith, low, length-append plan.start plan.script) in
+      let back = start_back held n 1 plan.start (packets (1 + length plan.start) plan.script) calls (omega (arith, all_low)) is.fixed (script_back held n (1 + length plan.start) plan.script calls all_low is.asks fit) in
       let first = read_first n (1 + length plan.start) plan.script calls fit in
       let acks = acks_for s back.sent in
       let sent = asked ++ acks in
@@ -326,6 +389,7 @@ module _ {P A Q R : Type 0} (said : P → P) (s : WireFormat P A Q R) (keeps : K
         back = back.sent;
         sent_so = so_append said asked acks (asked_so 1 (asks_of s plan)) (acked_so back.sent);
         back_so = back.as_read;
+        messages = back.apart.one;
         turns = λ t. omega (arith, count_by-append (asks_at t) asked acks, one_each t 1 (asks_of s plan) low, acks_none t back.sent);
         alone = alone_both asked acks (alone_asked 1 (asks_of s plan)) (alone_acked back.sent);
         runs = record {

@@ -112,26 +112,39 @@ past_by Host lists = lists.host_past
 abbrev pub events_by : Side → Lists → List (Event Item)
 events_by side lists = filled (λ p. said_item (item_of p [])) (sent_by side lists) (got_by side lists) (past_by side lists)
 
--- after these events a request is open under this id: one was sent, and no answer came under the id since
-abbrev pub is_open_under : WireFormat Item Want Ask Reply → ℕ → List (Event Item) → Bool
-is_open_under s t [] = false
-is_open_under s t (Sent p ∷ past) = asks_under s t p || is_open_under s t past
-is_open_under s t (Got p ∷ past) = not (answers_under s t p) && is_open_under s t past
-is_open_under s t (Empty ∷ past) = is_open_under s t past
-is_open_under s t (Marked ∷ past) = is_open_under s t past
-is_open_under s t (Saw ∷ past) = is_open_under s t past
+-- a message of the end that serves went under this id, and an acknowledgement came under it
+abbrev pub messages_under : WireFormat Item Want Ask Reply → ℕ → Item → Bool
+messages_under s t p = s.is_message p && (s.id_of p == t)
 
--- At no moment was a request sent under an id under which one was open. A request of a disk or of a network lends the page of its id, or none: so a page has one request at a time, until its completion was taken, and
--- isn't used again where that never comes, as behind a rescind
-abbrev pub GoesInTurn : WireFormat Item Want Ask Reply → List (Event Item) → Type 0
-GoesInTurn s events = (t : ℕ) (later before : List (Event Item)) (p : Item) → events ≡ later ++ Sent p ∷ before → asks_under s t p ≡ true → is_open_under s t before ≡ false
+abbrev pub acks_under : WireFormat Item Want Ask Reply → ℕ → Item → Bool
+acks_under s t p = s.is_ack p && (s.id_of p == t)
 
+-- after these events one is open: a packet that opens was sent, and none that closes came since
+abbrev pub is_open : (Item → Bool) → (Item → Bool) → List (Event Item) → Bool
+is_open opens closes [] = false
+is_open opens closes (Sent p ∷ past) = opens p || is_open opens closes past
+is_open opens closes (Got p ∷ past) = not (closes p) && is_open opens closes past
+is_open opens closes (Empty ∷ past) = is_open opens closes past
+is_open opens closes (Marked ∷ past) = is_open opens closes past
+is_open opens closes (Saw ∷ past) = is_open opens closes past
+
+-- of what opens and closes under an id: at no moment was one sent under an id under which one was open
+abbrev pub GoesInTurn : (ℕ → Item → Bool) → (ℕ → Item → Bool) → List (Event Item) → Type 0
+GoesInTurn opens closes events = (t : ℕ) (later before : List (Event Item)) (p : Item) → events ≡ later ++ Sent p ∷ before → opens t p ≡ true → is_open (opens t) (closes t) before ≡ false
+
+-- The end that asks sent its requests so: a request under an id is open until an answer came under it. A request of a disk or of a network lends the page of its id, or none: so a page has one request at a time, until its
+-- completion was taken, and isn't used again where that never comes, as behind a rescind
 abbrev pub InTurn : Order → Lists → Type 0
-InTurn order lists = GoesInTurn (format_of order.kind) (events_by (side_that_asks order.kind) lists)
+InTurn order lists = GoesInTurn (asks_under (format_of order.kind)) (answers_under (format_of order.kind)) (events_by (side_that_asks order.kind) lists)
+
+-- And the end that serves its messages: one under an id of its own is open until an acknowledgement came under it. A message of a network lends the page of the receive buffer that goes with its id: so such a page has one
+-- message at a time, and isn't used again where the acknowledgement never comes
+abbrev pub MessagesInTurn : Order → Lists → Type 0
+MessagesInTurn order lists = GoesInTurn (messages_under (format_of order.kind)) (acks_under (format_of order.kind)) (events_by (other (side_that_asks order.kind)) lists)
 
 -- and what was served are the first of these requests, in order: all of them where it doesn't stop. The end that asks sent nothing but requests and what
--- acknowledges messages. Page words arrive as they were put there, both ends' events are one run that tells the lists, and ids are used in turn in it. On a network's channel the
--- start-up told these page lists
+-- acknowledges messages. Page words arrive as they were put there, both ends' events are one run that tells the lists, and ids are used in turn in it, those of requests and those of the messages of the end that serves. On
+-- a network's channel the start-up told these page lists
 pub record IsChannelRun (order : Order) (lists : Lists) (served : List Served) : Type 0 where
   pub tells : BufferLists
   pub carried : Carries (side_that_asks order.kind) order tells lists served
@@ -140,6 +153,7 @@ pub record IsChannelRun (order : Order) (lists : Lists) (served : List Served) :
   pub arrive : ItemsArrive order lists
   pub moments : AreOfRun lists
   pub turns : InTurn order lists
+  pub messages : MessagesInTurn order lists
 
 abbrev pub rescinded_of : Served → LineResult
 rescinded_of s = RescindedServed s.serial

@@ -29,7 +29,7 @@ use Rattle.channel_model.specs.Acks.{acks_for}
 use Rattle.channel_model.specs.Roles.{side_that_asks}
 use Rattle.device_kinds.specs.Served.{Served, done_of}
 use Rattle.bus_model.specs.Orders.{Order, order_of, startup_of}
-use Rattle.bus_model.specs.Channel.{IsChannelRun, Carries, answers_under, asked_under, asked_by, asks_under, events_by, got_by, sent_by, items_sent, items_got, other, served_count, is_held, replies_to, rescinded_of, outcomes_of}
+use Rattle.bus_model.specs.Channel.{IsChannelRun, Carries, acks_under, answers_under, asked_under, asked_by, asks_under, events_by, got_by, sent_by, items_sent, items_got, other, served_count, is_held, replies_to, rescinded_of, outcomes_of}
 use Rattle.device_kinds.specs.Logs.{Recorded, served_from}
 use Rattle.bus_model.specs.Run.{Carried, IsBusRun, PhaseRuns, Known, seats_of, source_said, told_by}
 use Rattle.bus_model.specs.declared.channel_run.ChannelRun.{ChannelRun}
@@ -75,6 +75,32 @@ LendsInTurn order lists = (later between before : List (Event Item)) (first seco
 
 abbrev pub LendsOne : Type 0
 LendsOne = (order : Order) (lists : Lists) (served : List Served) → IsChannelRun order lists served → lends_on order.kind ≡ true → LendsInTurn order lists
+
+-- a message of the end that serves, under an id of its own from 1 to 64, that lends this
+pub record MessageLends (kind : DeviceKind) (p : Item) (l : Lent) : Type 0 where
+  pub message : (format_of kind).is_message p ≡ true
+  pub least : 1 ≤ (format_of kind).id_of p
+  pub within : (format_of kind).id_of p ≤ 64
+  pub lent : lent_of p.packet ≡ Some l
+
+-- The pages of a channel's two ends: a request lends one of the first 64 pages, that of id 1 the first of them; and a message one of the 64 behind
+pub record LendsOwn (order : Order) (lists : Lists) : Type 0 where
+  pub requests : (later before : List (Event Item)) (p : Item) (l : Lent) → events_by (side_that_asks order.kind) lists ≡ later ++ Sent p ∷ before → LendsBy order.kind p l → l.page + 1 ≡ (format_of order.kind).id_of p
+  pub messages : (later before : List (Event Item)) (p : Item) (l : Lent) → events_by (other (side_that_asks order.kind)) lists ≡ later ++ Sent p ∷ before → MessageLends order.kind p l → l.page ≡ 63 + (format_of order.kind).id_of p
+
+abbrev pub LendsOwnPages : Type 0
+LendsOwnPages = (order : Order) (lists : Lists) (served : List Served) → IsChannelRun order lists served → lends_on order.kind ≡ true → LendsOwn order lists
+
+-- Of two messages that lend one page the second goes once the acknowledgement of the first was taken: a page has one message at a time, and one whose acknowledgement was never taken, as where a
+-- rescind came first, is lent to no other
+abbrev pub MessagesLendInTurn : Order → Lists → Type 0
+MessagesLendInTurn order lists = (later between before : List (Event Item)) (first second : Item) (l m : Lent)
+    → events_by (other (side_that_asks order.kind)) lists ≡ later ++ Sent second ∷ (between ++ Sent first ∷ before)
+    → MessageLends order.kind first l → MessageLends order.kind second m → l.page ≡ m.page
+    → 1 ≤ count_by (acks_under (format_of order.kind) ((format_of order.kind).id_of first)) (got_of between)
+
+abbrev pub MessagesLendOne : Type 0
+MessagesLendOne = (order : Order) (lists : Lists) (served : List Served) → IsChannelRun order lists served → lends_on order.kind ≡ true → MessagesLendInTurn order lists
 
 -- as many requests are served as the order says
 abbrev pub ServesEach : Type 0

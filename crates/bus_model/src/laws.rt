@@ -1,5 +1,5 @@
 //! Laws of runs. The functions do nothing: each one's contract is the law.
-ghost use Rattle.bus_model.specs.Laws.{Arrives, OpensOne, LendsOne, ServesEach, ServesFirst, AsksAsScripted, CompletesEach, OneEach, CarriesOpened, TableOfOutcomes, RowsOfEnded, ListsTell, Rescinds, UnservedNowhere, OrdersRun};
+ghost use Rattle.bus_model.specs.Laws.{Arrives, OpensOne, LendsOne, LendsOwnPages, MessagesLendOne, ServesEach, ServesFirst, AsksAsScripted, CompletesEach, OneEach, CarriesOpened, TableOfOutcomes, RowsOfEnded, ListsTell, Rescinds, UnservedNowhere, OrdersRun};
 ghost use Rattle.bus_model.specs.Worked.{Shares, SharesOtherwise, Closes, Rescinded, Held};
 
 /// What each end of a channel got is what the other one sent, as it was sent: all of it, unless
@@ -16,6 +16,13 @@ pub fn opens_one()
 /// A page that requests lend has one of them at a time: the next one goes once the completion of the one before was taken.
 pub fn lends_one()
     ensures { LendsOne }
+{}
+
+/// A page that messages of the end that serves lend has one of them at a time: the next one goes once the acknowledgement of the one before was taken. It is the page of the message's own
+/// id, and no request lends it.
+pub fn messages_lend_one()
+    ensures pages { LendsOwnPages }
+    ensures turns { MessagesLendOne }
 {}
 
 /// Each request of the script on a channel was served once, up to where the service stopped.

@@ -11,7 +11,7 @@ use Rattle.channel_trace.specs.Runs.{IsFront, sent_of, got_of}
 use Rattle.channel_trace.proofs.Steps.{ends_exchanged}
 use Rattle.bus_model.specs.Orders.{Order, plan_of}
 use Rattle.std.specs.List.{AllByRecursion}
-use Rattle.bus_model.specs.Channel.{IsChannelRun, Carries, GoesInTurn, InTurn, ItemsArrive, events_by, is_of_asker, items_got, items_of, items_sent, replies_to, sent_by, got_by, other}
+use Rattle.bus_model.specs.Channel.{IsChannelRun, Carries, GoesInTurn, InTurn, ItemsArrive, MessagesInTurn, acks_under, answers_under, asks_under, events_by, is_of_asker, items_got, items_of, items_sent, messages_under, replies_to, sent_by, got_by, other}
 use Rattle.bus_model.proofs.FromLists.{serves_first_lem}
 use Rattle.device_kinds.specs.Served.{Served}
 use Rattle.script_lines.specs.declared.line.Ask.{Ask}
@@ -30,6 +30,7 @@ use Rattle.io_edge.specs.declared.side.Side.TheVariants.{Guest, Host}
 use Rattle.ring_core.specs.Seen.{Seen}
 use Rattle.ring_pair_laws.specs.Lists.{AreOfRun, Lists}
 use Rattle.ring_seat.specs.declared.table_seat.TableSeat.{TableSeat}
+use Rattle.channel_model.specs.Acks.{OwnFrom}
 use Rattle.channel_model.specs.Asker.{Encoded, requests_of}
 use Rattle.channel_model.specs.Channel.{AskerEnds, ServerEnds, asks_of as channel_asks, count_of, held_of, IsProtocolRun as Runs}
 use Rattle.channel_model.specs.Amounts.{SendsKinds}
@@ -43,7 +44,7 @@ use Rattle.worker_port.specs.declared.ended.Ended.TheVariants.{Marked, PeerMarke
 use Rattle.worker_port.specs.Line.{GotItems, IsLine, Line, line_of, past_as, whole}
 use Rattle.worker_port.proofs.ItemRuns.{items_run, items_got as items_got_of, items_sent as items_sent_of}
 use Rattle.bus_threads.proofs.ItemJoins.{front_all, got_items, items_are}
-use Rattle.bus_threads.proofs.Turns.{has_ids, in_turn}
+use Rattle.bus_threads.proofs.Turns.{has_ids, has_own_ids, in_turn, own_in_turn}
 use Rattle.worker_port.proofs.RoomLaws.{never_lacks}
 use Rattle.worker_pair.specs.Leaving.{Leaves, LeavesAsked, LeavesServed, WorkerDone, items_in, told_at}
 use Rattle.worker_pair.specs.Pairs.{ArePair, PlansAgree}
@@ -53,7 +54,7 @@ use Rattle.worker_pair.specs.Seats.{at_guest, at_host}
 use Rattle.device_any.specs.declared.device_seat.DeviceSeat.{DeviceSeat}
 use Rattle.worker_pair.specs.declared.worker.Worker.{Worker}
 use Rattle.worker_pair.specs.declared.worker.Worker.TheVariants.{Asks, Serves}
-use Rattle.bus_threads.specs.Pairs.{HasIds, MadeFor, MarkedFirst, RunsPair, ComesBack, ended_at, first_of, is_whole}
+use Rattle.bus_threads.specs.Pairs.{HasIds, HasOwnIds, MadeFor, MarkedFirst, RunsPair, ComesBack, ended_at, first_of, is_whole}
 use Rattle.bus_threads.specs.declared.pair.PairDone.{PairDone}
 use Rattle.bus_threads.proofs.Alone.{alone}
 use Rattle.bus_threads.proofs.Asked.{few_asked}
@@ -71,6 +72,7 @@ pub record Joins (asker server : Seen TableSeat) (lists : Lists) (side : Side) :
   pub at_guest : IsFront (items_got Guest lists) (items_sent Host lists)
   pub moments : AreOfRun lists
   pub asker_did : events_by side lists ≡ items_in asker
+  pub server_did : events_by (other side) lists ≡ items_in server
 
 -- both workers have ended, and their ends were joined
 pub record BothLeave (a : Asking ChannelScript TableSeat Reply) (s : Serving ChannelScript DeviceSeat TableSeat Ask Reply) (asked served : WorkerDone) (lists : Lists) (side : Side) : Type 0 where
@@ -157,7 +159,19 @@ turns_at : (order : Order) (tells : BufferLists) (lists : Lists) (past : List (E
     → AskedFrom (format_of order.kind) most (startup order.kind order.sub order.subs tells ++ map Script order.asks) past → InTurn order lists
 turns_at order tells lists past most did encoded from =
     let s = format_of order.kind in
-    subst (GoesInTurn s) (sym did) (in_turn s most (channel_asks s (plan_of tells order)) past encoded from)
+    subst (GoesInTurn (asks_under s) (answers_under s)) (sym did) (in_turn s most (channel_asks s (plan_of tells order)) past encoded from)
+
+-- however the one that serves ended, its messages went under ids of its own, in turn
+own_from : (s : WireFormat Item Want Ask Reply) (besides : Bool) (how : Ended) (w : Serving ChannelScript DeviceSeat TableSeat Ask Reply) (e : Line TableSeat) (calls : List Served) → EndsBy s besides how w e calls → OwnFrom s 64 e.state.past
+own_from s besides Marked w e calls by = by.2
+own_from s besides PeerMarked w e calls by = by.2
+own_from s besides (Room packets words left) w e calls by = by.1
+own_from s besides Broken w e calls by = by.1
+
+messages_at : (order : Order) (lists : Lists) (past : List (Event Item)) → events_by (other (side_that_asks order.kind)) lists ≡ past → OwnFrom (format_of order.kind) 64 past → MessagesInTurn order lists
+messages_at order lists past did from =
+    let s = format_of order.kind in
+    subst (GoesInTurn (messages_under s) (acks_under s)) (sym did) (own_in_turn s 64 past from)
 
 -- the channel ran, and each request that was served was a call of the seat
 pub record RanBy (order : Order) (tells : BufferLists) (seat : DeviceSeat) (earlier : List Served) (back : DeviceSeat) (lists : Lists) (asked served : WorkerDone) : Type 0 where
@@ -199,6 +213,7 @@ ran order seat earlier a s asked served lists side at_side made ended =
         arrive = arrives_at (side_that_asks order.kind) order tells lists calls at.at_host at.at_guest carried;
         moments = at.moments;
         turns = turns_at order tells lists (items_in asked.end) (length a.table) at.asker_did both.asker_ends.encoded (subst (λ (t : ChannelScript). AskedFrom (format_of t.kind) (length a.table) (asks_of t) (items_in asked.end)) made.protocol ended.asker_leaves.ids);
+        messages = messages_at order lists (items_in served.end) at.server_did (subst (λ k. OwnFrom (format_of k) 64 (items_in served.end)) made.answers (own_from _ _ served.ended s (line_of said_item served.end) _ ended.server_leaves.serves));
       };
       told = refl;
       same = ended.server_leaves.place ∙ ap device_place made.seat_is;
@@ -330,6 +345,7 @@ guest_asks a s guest host done closes =
         at_guest = front_is _ _ _ _ e.guest_got e.host_sent e.to_guest;
         moments = e.moments;
         asker_did = did_is guest.end _ _ _ e.guest_sent e.guest_got closes.pasts.0;
+        server_did = did_is host.end _ _ _ e.host_sent e.host_got closes.pasts.1;
       };
     }
 
@@ -352,12 +368,18 @@ host_asks a s guest host done closes =
         at_guest = front_is _ _ _ _ e.guest_got e.host_sent e.to_guest;
         moments = e.moments;
         asker_did = did_is host.end _ _ _ e.host_sent e.host_got closes.pasts.1;
+        server_did = did_is guest.end _ _ _ e.guest_sent e.guest_got closes.pasts.0;
       };
     }
 
 -- and their ids are those of its table
 ids_at : (a : Asking ChannelScript TableSeat Reply) (past : List (Event Item)) (sent : List Item) → sent ≡ sent_of past → AskedFrom (format_of a.protocol.kind) (length a.table) (asks_of a.protocol) past → HasIds (format_of a.protocol.kind) (length a.table) sent
 ids_at a past sent is from = subst (HasIds (format_of a.protocol.kind) (length a.table)) (sym is) (has_ids (format_of a.protocol.kind) (length a.table) (asks_of a.protocol) past from)
+
+-- and those of messages are its own
+own_ids_at : (s : Serving ChannelScript DeviceSeat TableSeat Ask Reply) (served : WorkerDone) (sent : List Item) → sent ≡ sent_of (items_in served.end) → LeavesServed s served → HasOwnIds (format_of s.responder.protocol.kind) 64 sent
+own_ids_at s served sent is leaves =
+    subst (HasOwnIds (format_of s.responder.protocol.kind) 64) (sym is) (has_own_ids (format_of s.responder.protocol.kind) 64 (items_in served.end) (own_from _ _ served.ended s (line_of said_item served.end) _ leaves.serves))
 
 pub runs_pair : (g h : Worker) (guest host : WorkerDone) (done : PairDone) → Closes g h guest host done → RunsPair (record { guest = g; host = h }) done
 unfolding guest_asks host_asks
@@ -370,6 +392,7 @@ runs_pair (Asks a) (Serves s) guest host done closes =
       host = ap is_whole closes.host_ended ∙ whole.1;
       seats = (closes.guest_seat ∙ closes.guest_leaves.seat, comes_back s host (at_host done.host_seat) closes.host_seat closes.host_leaves);
       ids = ids_at a (items_in guest.end) (sent_by Guest done.settled) both.joins.asker_sent closes.guest_leaves.ids;
+      own_ids = own_ids_at s host (sent_by Host done.settled) both.joins.server_sent closes.host_leaves;
       runs = λ order seat earlier opens.
           let r = ran order seat earlier a s guest host done.settled Guest opens.0 opens.1 both in
           record {
@@ -392,6 +415,7 @@ runs_pair (Serves s) (Asks a) guest host done closes =
       host = ap is_whole closes.host_ended ∙ whole.0;
       seats = (comes_back s guest (at_guest done.guest_seat) closes.guest_seat closes.guest_leaves, closes.host_seat ∙ closes.host_leaves.seat);
       ids = ids_at a (items_in host.end) (sent_by Host done.settled) both.joins.asker_sent closes.host_leaves.ids;
+      own_ids = own_ids_at s guest (sent_by Guest done.settled) both.joins.server_sent closes.guest_leaves;
       runs = λ order seat earlier opens.
           let r = ran order seat earlier a s host guest done.settled Host opens.0 opens.1 both in
           record {

@@ -163,13 +163,25 @@ KeepsIds (Asks a) (Serves s) lists = HasIds (format_of a.protocol.kind) (length 
 KeepsIds (Serves s) (Asks a) lists = HasIds (format_of a.protocol.kind) (length a.table) (sent_by Host lists)
 KeepsIds (Serves s) (Serves t) lists = ⊥
 
--- both workers of a pair ended where their plans end, with their seats; requests had the ids that a request can have; and for each order that the pair was opened for, it has run, behind the calls that the
+-- each message besides the answers has an id from 1 to so many
+abbrev pub HasOwnIds : WireFormat Item Want Ask Reply → ℕ → List Item → Type 0
+HasOwnIds s most sent = AllByRecursion (λ p. s.is_message p ≡ true → (1 ≤ s.id_of p) × (s.id_of p ≤ most)) sent
+
+-- the end that serves sent its messages so, as many as its table has places
+abbrev pub KeepsOwnIds : Worker → Worker → Lists → Type 0
+KeepsOwnIds (Asks a) (Asks b) lists = ⊥
+KeepsOwnIds (Asks a) (Serves s) lists = HasOwnIds (format_of s.responder.protocol.kind) 64 (sent_by Host lists)
+KeepsOwnIds (Serves s) (Asks a) lists = HasOwnIds (format_of s.responder.protocol.kind) 64 (sent_by Guest lists)
+KeepsOwnIds (Serves s) (Serves t) lists = ⊥
+
+-- both workers of a pair ended where their plans end, with their seats; requests had the ids that a request can have, and messages those of the end that serves; and for each order that the pair was opened for, it has run, behind the calls that the
 -- seat had made before, and what the start-up of its channel told are the pair's page lists
 pub record RunsPair (p : Pairing) (done : PairDone) : Type 0 where
   pub guest : is_whole done.guest ≡ true
   pub host : is_whole done.host ≡ true
   pub seats : KeepsSeats p.guest p.host (at_guest done.guest_seat) (at_host done.host_seat)
   pub ids : KeepsIds p.guest p.host done.settled
+  pub own_ids : KeepsOwnIds p.guest p.host done.settled
   pub runs : (order : Order) (seat : DeviceSeat) (earlier : List Served) → OpensBehind order seat earlier p → RanBehind order seat earlier done
   pub tells : (order : Order) (seat : DeviceSeat) (earlier : List Served) → (opens : OpensBehind order seat earlier p) → (runs order seat earlier opens).channel.tells ≡ lists_of p
 
