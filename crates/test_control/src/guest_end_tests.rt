@@ -44,6 +44,10 @@ const UNSUPPORTED: &[u8] =
 // A network.
 const NET: &[u8] = b"contact 5.2 5.2\noffer net n 020000000001 0200000000fe\nquery n 0x00010106\n";
 
+// A network that is rescinded.
+const NET_RESCINDED: &[u8] =
+    b"contact 5.2 5.2\noffer net n 020000000001 0200000000fe\nquery n 0x00010106\nrescind n after 0\n";
+
 // What the tests tell messages by: the type, and then relid or version, handle or processor, and the ring
 // to the guest or the number of frames.
 type Told = (u32, u32, u32, u32);
@@ -939,9 +943,98 @@ const FILL: [(Step, &[Told]); 26] = [
     (Step::IsDone(true), &[]),
 ];
 
+// The rescind of a network ends its rings' page list and both of its buffers: the guest tears none of the three
+// down, and awaits none to be.
+const RESCIND_NET: [(Step, &[Told]); 19] = [
+    (Step::Begin(Part::Contact), &[(14, 0x5_0002, 0, 0)]),
+    (Step::Feed(Said::Response { supported: 1 }), &[(3, 0, 0, 0)]),
+    (
+        Step::Feed(Said::Offer {
+            kind: Kind::Net,
+            relid: 1,
+            sub: 0,
+        }),
+        &[],
+    ),
+    (Step::Feed(Said::Delivered), &[]),
+    (Step::Begin(Part::PhaseStart(0)), &[(8, 1, GPADL, 4)]),
+    (
+        Step::Feed(Said::Created {
+            relid: 1,
+            gpadl: GPADL,
+        }),
+        &[(5, 1, GPADL, 2)],
+    ),
+    (
+        Step::Feed(Said::Opened {
+            relid: 1,
+            status: 0,
+        }),
+        &[
+            (8, 1, GPADL + 1, 26),
+            (9, 0, GPADL + 1, 28),
+            (9, 1, GPADL + 1, 10),
+        ],
+    ),
+    (
+        Step::Feed(Said::Created {
+            relid: 1,
+            gpadl: GPADL + 1,
+        }),
+        &[
+            (8, 1, GPADL + 2, 26),
+            (9, 0, GPADL + 2, 28),
+            (9, 1, GPADL + 2, 10),
+        ],
+    ),
+    (
+        Step::Feed(Said::Created {
+            relid: 1,
+            gpadl: GPADL + 2,
+        }),
+        &[],
+    ),
+    (Step::IsDone(true), &[]),
+    (Step::Begin(Part::PhaseEnd(0)), &[]),
+    (Step::IsDone(false), &[]),
+    (Step::Feed(Said::Rescind { relid: 1 }), &[(13, 1, 0, 0)]),
+    (Step::IsAt(1, Some(State::Released)), &[]),
+    (
+        Step::Refuse(
+            Said::Torndown { gpadl: GPADL + 2 },
+            ControlFault::Gpadl(GpadlFault::Handle { id: GPADL + 2 }),
+        ),
+        &[],
+    ),
+    (
+        Step::Refuse(
+            Said::Torndown { gpadl: GPADL + 1 },
+            ControlFault::Gpadl(GpadlFault::Handle { id: GPADL + 1 }),
+        ),
+        &[],
+    ),
+    (
+        Step::Refuse(
+            Said::Torndown { gpadl: GPADL },
+            ControlFault::State(StateFault {
+                state: State::Released,
+                event: Event::TorndownSeen,
+            }),
+        ),
+        &[],
+    ),
+    (Step::IsDone(true), &[]),
+    (Step::Begin(Part::Unload), &[(16, 0, 0, 0)]),
+];
+
 #[test]
 fn buffers_have_lists(rt: HostRuntime) {
     take_all(&rt, NET, &FILL);
+}
+
+#[test]
+fn a_rescind_ends_a_networks_lists(rt: HostRuntime) {
+    take_all(&rt, NET_RESCINDED, &RESCIND_NET);
 }
 
 #[test]

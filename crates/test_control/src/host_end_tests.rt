@@ -27,6 +27,10 @@ const UNSUPPORTED: &[u8] = b"contact 5.3 4.0\noffer hb a\nmodify a 5\n";
 // A network.
 const NET: &[u8] = b"contact 5.2 5.2\noffer net n 020000000001 0200000000fe\nquery n 0x00010106\n";
 
+// A network that is rescinded.
+const NET_RESCINDED: &[u8] =
+    b"contact 5.2 5.2\noffer net n 020000000001 0200000000fe\nquery n 0x00010106\nrescind n after 0\n";
+
 const GPADL: u32 = 0xe1e10;
 
 // What the tests tell messages by: the type, and then what it answers with, or relid or handle.
@@ -593,9 +597,107 @@ const FILL: [(Step, &[Told]); 27] = [
     (Step::Ended(13, 19), &[]),
 ];
 
+// The rescind of a network ends the page lists of its rings and of both its buffers: a guest that tears them down
+// is told nothing, and each of the three handles is free for a new list.
+const RESCIND_NET: [(Step, &[Told]); 22] = [
+    (Step::Begin(Part::Contact), &[]),
+    (Step::Feed(Said::Contact { version: 0x5_0002 }), &[(15, 1)]),
+    (Step::Feed(Said::Request), &[(1, 1), (4, 0)]),
+    (Step::Begin(Part::PhaseStart(0)), &[]),
+    (
+        Step::List {
+            relid: 1,
+            gpadl: GPADL,
+            pages: 4,
+        },
+        &[(10, GPADL)],
+    ),
+    (
+        Step::Feed(Said::Open {
+            relid: 1,
+            gpadl: GPADL,
+        }),
+        &[(6, 1)],
+    ),
+    (
+        Step::List {
+            relid: 1,
+            gpadl: GPADL + 1,
+            pages: 64,
+        },
+        &[(10, GPADL + 1)],
+    ),
+    (
+        Step::List {
+            relid: 1,
+            gpadl: GPADL + 2,
+            pages: 64,
+        },
+        &[(10, GPADL + 2)],
+    ),
+    (Step::IsDone(true), &[]),
+    (Step::Begin(Part::PhaseEnd(0)), &[(2, 1)]),
+    (Step::IsAt(1, Some(State::Rescinded)), &[]),
+    (
+        Step::Feed(Said::Teardown {
+            relid: 1,
+            gpadl: GPADL + 2,
+        }),
+        &[],
+    ),
+    (
+        Step::Feed(Said::Teardown {
+            relid: 1,
+            gpadl: GPADL + 1,
+        }),
+        &[],
+    ),
+    (
+        Step::Feed(Said::Teardown {
+            relid: 1,
+            gpadl: GPADL,
+        }),
+        &[],
+    ),
+    (
+        Step::List {
+            relid: 1,
+            gpadl: GPADL,
+            pages: 4,
+        },
+        &[(10, GPADL)],
+    ),
+    (
+        Step::List {
+            relid: 1,
+            gpadl: GPADL + 1,
+            pages: 64,
+        },
+        &[(10, GPADL + 1)],
+    ),
+    (
+        Step::List {
+            relid: 1,
+            gpadl: GPADL + 2,
+            pages: 64,
+        },
+        &[(10, GPADL + 2)],
+    ),
+    (Step::IsAt(1, Some(State::Rescinded)), &[]),
+    (Step::IsDone(false), &[]),
+    (Step::Feed(Said::Release { relid: 1 }), &[]),
+    (Step::IsAt(1, Some(State::Released)), &[]),
+    (Step::IsDone(true), &[]),
+];
+
 #[test]
 fn buffers_have_lists(rt: HostRuntime) {
     take_all(&rt, NET, &FILL);
+}
+
+#[test]
+fn a_rescind_ends_a_networks_lists(rt: HostRuntime) {
+    take_all(&rt, NET_RESCINDED, &RESCIND_NET);
 }
 
 #[test]

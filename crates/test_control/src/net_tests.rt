@@ -132,6 +132,51 @@ const HOST_SAYS: [Told; 24] = [
     (17, 0, 0, 0, 0),
 ];
 
+// These pages follow each other, and the first one is this. The page behind the last one.
+fn check_pages(rt: &impl Abort, first: u64, frames: &[u64]) -> u64 {
+    let mut page = first;
+    for frame in frames {
+        check(rt, *frame == page);
+        page = page.wrapping_add(1);
+    }
+    page
+}
+
+// The pages of all lists follow each other from 0 on, and each header tells the bytes of its whole list.
+fn check_whole_lists(rt: &impl Abort, posted: &[Msg]) {
+    let mut page = 0;
+    for m in posted {
+        page = match m {
+            Msg::GpadlHeader(h) => {
+                let whole = if h.frames.len() == 26 {
+                    (520, 262_144)
+                } else {
+                    (40, 16_384)
+                };
+                check(rt, (h.range_buflen, h.byte_count) == whole);
+                check(rt, (h.rangecount, h.byte_offset) == (1, 0));
+                check_pages(rt, page, h.frames.as_slice())
+            }
+            Msg::GpadlBody(b) => check_pages(rt, page, b.frames.as_slice()),
+            _ => page,
+        };
+    }
+    // Three lists of 4 pages for rings, and six of 64 for buffers.
+    check(rt, page == 396);
+}
+
+// Each list was accepted, and each channel opened.
+fn check_accepted(rt: &impl Abort, posted: &[Msg]) {
+    for m in posted {
+        match m {
+            Msg::GpadlCreated { status, .. } | Msg::OpenChannelResult { status, .. } => {
+                check(rt, *status == 0);
+            }
+            _ => {}
+        }
+    }
+}
+
 // Runs the next part.
 fn go<R: Abort + Threads + Wait + Sync>(rt: &R, path: ControlPath) -> ControlPath
     requires { Rests path }
@@ -202,6 +247,8 @@ fn buffers_have_lists(rt: HostRuntime) {
     check_said(&rt, host.fed(), &GUEST_SAYS);
     check_said(&rt, host.posted(), &HOST_SAYS);
     check_said(&rt, guest.fed(), &HOST_SAYS);
+    check_whole_lists(&rt, guest.posted());
+    check_accepted(&rt, host.posted());
     check(
         &rt,
         guest.state(1) == Some(State::Closed) && host.state(1) == Some(State::Closed),

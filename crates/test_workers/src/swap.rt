@@ -263,6 +263,7 @@ pub struct SwapSeat {
 }
 
 impl SwapSeat {
+    /// A seat that may make so many calls yet.
     pub fn make(alloc: Global, left: u32) -> Result<SwapSeat, AllocError>
         ensures { IfOk result (λ s. (s.log.items ≡ []) × (s.left ≡ left)) }
     {
