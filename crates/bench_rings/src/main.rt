@@ -1,5 +1,5 @@
 //! Times a send, a take and a commit: by two ends in turn over one memory, by two ends in turn on atomic words, and by two ends on atomic words in two threads.
-//! And a data page's way out and back, by two ends in turn. It writes nothing on standard output, and its figures on standard error.
+//! And a data page's way out and back, by two ends in turn, and a read's. It writes nothing on standard output, and its figures on standard error.
 #![tactic(auto)]
 
 ghost use Rattle.std.specs.Prelude.{◌≤◌, length};
@@ -11,6 +11,7 @@ mod pages;
 mod words;
 
 use packet::{MOST, words};
+use pages::Brings;
 use ring_core::is_packet;
 use std::alloc::Global;
 use std::io;
@@ -80,15 +81,26 @@ fn tell<R: Runtime + Threads + Wait + Sync>(
     )
 }
 
-// Tells the time of a page's way out and back.
-fn tell_page<R: Runtime>(rt: &R, alloc: Global) -> io::Result<()> {
+// The quickest way out and back of a page that brings this back.
+fn quickest_page<R: Runtime>(rt: &R, alloc: Global, brings: Brings) -> io::Result<u128> {
     let mut best = u128::MAX;
     for _ in 0..ROUNDS {
-        best = best.min(pages::round(rt, alloc, TRIPS)?);
+        best = best.min(pages::round(rt, alloc, brings, TRIPS)?);
     }
-    let byte = a_byte(best, 4096);
+    Ok(best)
+}
+
+// Tells the time of a page's way out and back, and that of a read.
+fn tell_page<R: Runtime>(rt: &R, alloc: Global) -> io::Result<()> {
+    let page = quickest_page(rt, alloc, Brings::TheSame)?;
+    let byte = a_byte(page, 4096);
+    let read = quickest_page(rt, alloc, Brings::Answer)?;
+    let read_byte = a_byte(read, 4096);
     eprintln!(rt;
-        "a page of 4096 bytes, sent, loaded, completed and loaded again: {best} ns on atomic words; {byte} ps a byte"
+        "a page of 4096 bytes, sent, loaded, completed and loaded again: {page} ns on atomic words; {byte} ps a byte"
+    )?;
+    eprintln!(rt;
+        "a read of 4096 bytes, sent, loaded, stored, completed and loaded again: {read} ns on atomic words; {read_byte} ps a byte"
     )
 }
 

@@ -33,6 +33,20 @@ pub(crate) fn send<S: Seatlike>(e: &mut End<S>, p: &[u64]) -> bool
     e.send(p).is_ok()
 }
 
+// Stores these words into the part of a page that goes along with a packet, where they fit there and the packet may be sent: whether they were.
+pub(crate) fn lay<S: Seatlike>(e: &mut End<S>, p: &[u64], words: &[u64]) -> bool
+    requires { IsPacket p.now }
+{
+    let Some(part) = e.part_of(p) else {
+        return false;
+    };
+    if words.len() > part.words as usize || !e.is_ready() || !may_lend(e, p) {
+        return false;
+    }
+    e.lay(p, words);
+    true
+}
+
 // Takes, loads the words that come with the packet, and gives the cells back, where that may be done: whether there was a packet.
 pub(crate) fn take<S: Seatlike>(e: &mut End<S>) -> bool {
     if !may_take(e) {

@@ -1,5 +1,5 @@
-//! A data page's way from one end to the other and back, by two ends in turn on atomic words.
-use crate::packet::{send, take};
+//! A data page's way from one end to the other and back, by two ends in turn on atomic words: as it is, and as a read, whose answer is stored into it.
+use crate::packet::{lay, send, take};
 use ring_core::Room;
 use ring_seat::{ChannelMem, GuestEnd, HostEnd};
 use std::alloc::{AllocError, Global};
@@ -16,16 +16,36 @@ const REQUEST: [u64; 5] = [0x5_0005_0009, 1, 0x1_0000_0000, 4096, 0];
 // Its completion.
 const COMPLETION: [u64; 2] = [0x2_0002_000b, 1];
 
+// What the page brings back.
+#[derive(Clone, Copy)]
+pub(crate) enum Brings {
+    // What it took out.
+    TheSame,
+    // What a read is answered with: the host stores all of its words.
+    Answer,
+}
+
+// What a read is answered with.
+const ANSWER: [u64; WORDS as usize] = [0x9e37_79b9_7f4a_7c15; WORDS as usize];
+
+// The host stores what the page brings back, if it does: whether the page may come back.
+fn answer(h: &mut HostEnd, brings: Brings) -> bool {
+    match brings {
+        Brings::TheSame => true,
+        Brings::Answer => lay(h, &COMPLETION, &ANSWER),
+    }
+}
+
 // The page goes out and comes back: whether it did.
-fn trip(g: &mut GuestEnd, h: &mut HostEnd) -> bool {
-    send(g, &REQUEST) && take(h) && send(h, &COMPLETION) && take(g)
+fn trip(g: &mut GuestEnd, h: &mut HostEnd, brings: Brings) -> bool {
+    send(g, &REQUEST) && take(h) && answer(h, brings) && send(h, &COMPLETION) && take(g)
 }
 
 // So many trips: how many came to their end.
-fn trips(g: &mut GuestEnd, h: &mut HostEnd, count: u64) -> u64 {
+fn trips(g: &mut GuestEnd, h: &mut HostEnd, brings: Brings, count: u64) -> u64 {
     let mut back: u64 = 0;
     for _ in 0..count {
-        if trip(g, h) {
+        if trip(g, h, brings) {
             back = back.wrapping_add(1);
         }
     }
@@ -56,15 +76,27 @@ fn reserve(g: &mut GuestEnd, h: &mut HostEnd, count: u64) -> Result<(), AllocErr
 }
 
 // The nanoseconds a trip of these ends, with room made first.
-fn timed<R: Runtime>(rt: &R, g: &mut GuestEnd, h: &mut HostEnd, count: u64) -> io::Result<u128> {
+fn timed<R: Runtime>(
+    rt: &R,
+    g: &mut GuestEnd,
+    h: &mut HostEnd,
+    brings: Brings,
+    count: u64,
+) -> io::Result<u128> {
     reserve(g, h, count)?;
     let start = Instant::now(rt)?;
-    let back = trips(g, h, count);
+    let back = trips(g, h, brings, count);
     a_trip(start.elapsed(rt)?.as_nanos(), back, count)
 }
 
-/// The nanoseconds a trip of one round: two packets, and a load of the page's 4,096 bytes at either end. It is an error where a page didn't come back.
-pub(crate) fn round<R: Runtime>(rt: &R, alloc: Global, count: u64) -> io::Result<u128> {
+/// The nanoseconds a trip of one round: two packets, a load of the page's 4,096 bytes at either end, and a store of as many where the page brings an answer
+/// back. It is an error where a page didn't come back.
+pub(crate) fn round<R: Runtime>(
+    rt: &R,
+    alloc: Global,
+    brings: Brings,
+    count: u64,
+) -> io::Result<u128> {
     let (mut g, mut h) = ChannelMem::make(alloc, 1, 1)?;
-    timed(rt, &mut g, &mut h, count)
+    timed(rt, &mut g, &mut h, brings, count)
 }
