@@ -22,12 +22,13 @@ use std::sync::Wait;
 use std::thread::Threads;
 
 /// Runs all channels that a phase opens, and answers the outcomes of their requests. The requests are moved out of the plan to the workers that ask them, and
-/// the workers are noted behind those of the phases before.
+/// the workers are noted behind those of the phases before. `is_last` says that no phase follows.
 pub fn run_channels<R: Threads + Wait + Sync, G: Gate>(
     rt: &R,
     gate: &G,
     alloc: Global,
     phase: u32,
+    is_last: bool,
     plan: Vec<ChannelOrder>,
     settings: &[Settings],
     boxes: &mut Vec<DeviceBox>,
@@ -52,7 +53,7 @@ pub fn run_channels<R: Threads + Wait + Sync, G: Gate>(
     let mut done = Vec::with_capacity(alloc, pairs.len())?;
     bus_threads::run_phase(rt, pairs, &mut done, gate);
     let left = Snapshot::of(&done);
-    let outcomes = close_all(alloc, phase, &dues, done, boxes, settled)?;
+    let outcomes = close_all(alloc, phase, is_last, &dues, done, boxes, settled)?;
     unite_all(boxes);
     work.push(PhaseWork { opened, left })?;
     Ok(outcomes)

@@ -42,10 +42,19 @@ fn end_channel(asked: usize, done: PairDone) -> (Settled, DeviceSeat, ChannelOut
     (settled, seat, ChannelOutcomes::of(asked, serials, replies))
 }
 
-/// Closes a channel: what it carried stands behind the runs before, with no room left for more, its seat is given back, and the answer is the outcomes of its
-/// requests.
+// The room that lists have left goes back to the allocator where another phase follows: the lists of its channels find their place there. Behind the last
+// phase nobody wants it, and the copies that it costs would be for nothing.
+fn make_place(lists: &mut Settled, is_last: bool) -> Result<(), AllocError>
+    ensures { lists.new ≡ lists.old }
+{
+    if is_last { Ok(()) } else { lists.trim() }
+}
+
+/// Closes a channel: what it carried stands behind the runs before, its seat is given back, and the answer is the outcomes of its requests. `is_last` says that
+/// no phase follows.
 fn close_channel(
     phase: u32,
+    is_last: bool,
     due: &Due,
     own: &mut DeviceBox,
     dones: &mut IntoIter<PairDone>,
@@ -61,7 +70,7 @@ fn close_channel(
         unreachable!();
     };
     let (mut lists, seat, outcomes) = end_channel(due.count, done);
-    lists.trim()?;
+    make_place(&mut lists, is_last)?;
     own.give_back(seat)?;
     settled.push(ChannelRun {
         phase,
@@ -72,10 +81,11 @@ fn close_channel(
     Ok(outcomes)
 }
 
-/// Closes all channels of a phase, and answers the outcomes of their requests.
+/// Closes all channels of a phase, which may be the last one, and answers the outcomes of their requests.
 pub fn close_all(
     alloc: Global,
     phase: u32,
+    is_last: bool,
     dues: &[Due],
     done: Vec<PairDone>,
     boxes: &mut Vec<DeviceBox>,
@@ -89,7 +99,7 @@ pub fn close_all(
     let mut outcomes = Outcomes::make(alloc, boxes.len())?;
     for due in dues {
         let at = due.opening.device as usize;
-        let channel = close_channel(phase, due, &mut boxes[at], &mut dones, settled)?;
+        let channel = close_channel(phase, is_last, due, &mut boxes[at], &mut dones, settled)?;
         outcomes.push(at, channel)?;
     }
     Ok(outcomes)

@@ -38,13 +38,14 @@ fn all_subs(alloc: Global, boxes: &[DeviceBox]) -> Result<Vec<u32>, AllocError>
 }
 
 /// Plans a phase, runs its channels, tells the outcomes of its lines in their order, and notes which devices it ended. `version` is the agreed one. `relid` is the first one that no
-/// channel has had.
+/// channel has had. `is_last` says that no phase follows.
 pub fn run_script_phase<R: Threads + Wait + Sync, G: Gate>(
     rt: &R,
     gate: &G,
     alloc: Global,
     version: Version,
     phase: u32,
+    is_last: bool,
     part: &[Line],
     settings: &[Settings],
     ended: &mut [Option<Ending>],
@@ -79,7 +80,7 @@ pub fn run_script_phase<R: Threads + Wait + Sync, G: Gate>(
     let subs = all_subs(alloc, boxes)?;
     let plan = plan_part(alloc, ended, &subs, relid, part)?;
     let outcomes = run_channels(
-        rt, gate, alloc, phase, plan, settings, boxes, settled, work, path,
+        rt, gate, alloc, phase, is_last, plan, settings, boxes, settled, work, path,
     )?;
     line_results(version, ended, outcomes, part, results)?;
     mark_ended(ended, part);

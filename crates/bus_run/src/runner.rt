@@ -247,6 +247,7 @@ impl Runner {
             alloc,
             self.version,
             self.phase,
+            next.is_none(),
             part,
             &self.settings,
             &mut self.ended,

@@ -35,9 +35,9 @@ pub returns-clause-closed : goal.returns-clause-closed
 returns-clause-closed c order first done rest many are ran =
     let same : done ≡ c.in-Some.done = ap (λ l. get_or l 0 done) (sym are ∙ c.in-Some.ensures.items) in
     record {
-      lists = c.trim.new.self;
+      lists = c.make_place.new.lists;
       back = c.end_channel-lists.result.1;
-      ended = subst (λ (l : Lists). ChannelEnded order first l c.end_channel-lists.result.1 c.end_channel-lists.result.2) (sym c.trim.ensures) (c.end_channel-lists.ensures.ended order first many (subst (RanPair order first) same ran));
+      ended = subst (λ (l : Lists). ChannelEnded order first l c.end_channel-lists.result.1 c.end_channel-lists.result.2) (sym c.make_place.ensures) (c.end_channel-lists.ensures.ended order first many (subst (RanPair order first) same ran));
       seats = c.in_ok-give_back.ensures.seats;
       still = still_open c.args.own.now c.give_back.new.self (kind_at c.requires.1) c.requires.5 c.in_ok-give_back.ensures.kind c.in_ok-give_back.ensures.subs;
       settled_are = c.in_ok-push.ensures.items;
@@ -48,4 +48,4 @@ returns-clause-carried c done rest are =
     let same : done ≡ c.in-Some.done = ap (λ l. get_or l 0 done) (sym are ∙ c.in-Some.ensures.items) in
     c.in_ok-push.ensures.items
     ∙ ap (λ (l : Lists). c.args.settled.now.items ++ record { phase = c.args.phase; relid = c.args.due.now.opening.relid; device = c.args.due.now.opening.device; settled = l } ∷ [])
-    (c.trim.ensures ∙ (c.end_channel-lists.ensures.settled ∙ ap (λ d. d.settled) (sym same)))
+    (c.make_place.ensures ∙ (c.end_channel-lists.ensures.settled ∙ ap (λ d. d.settled) (sym same)))
