@@ -4,9 +4,9 @@ use Rattle.page_kept.specs.Keepers.{MayStore}
 use Rattle.page_kept.specs.Layouts.{layout}
 use Rattle.page_kept.specs.declared.due.Due.TheVariants.{Clear}
 use Rattle.ring_core.specs.Seen.{Seen}
-use Rattle.ring_core.specs.Told.{Memory}
+use Rattle.ring_core.specs.Told.{Tale}
 use Rattle.ring_core.specs.declared.told.Told.{Told}
-use Rattle.ring_stream.specs.Driven.{Driven, IsAwakeEnd, broken, MakesSteps}
+use Rattle.ring_core.specs.Driven.{Driven, IsAwakeEnd, broken, MakesSteps}
 use Rattle.ring_machine.specs.States.{IsPacket, MayLend}
 use Rattle.ring_machine.specs.Steps.{send_begun, take_begun}
 use Rattle.ring_machine.specs.declared.machine.EndMachine.{EndMachine}
@@ -65,13 +65,13 @@ pub record CanPass {S T : Type 0} (from : Driven S) (to : Driven T) (p : List �
   pub fits : length p + 1 < from.state.machine.cells
 
 -- what the steps of a send, or of a take, left of an end, where no packet went, or none came
-abbrev pub SendRefused : {S : Type 0} → (S → Option Told) → (S → Option Memory) → Driven S → Driven S → List ℕ → Type 0
-SendRefused told memory old new p = (new.state.sent ≡ old.state.sent) × MakesSteps told memory (send_begun old.state.machine (length p)) p old new
+abbrev pub SendRefused : {S : Type 0} → (S → Option Told) → (S → Tale) → Driven S → Driven S → List ℕ → Type 0
+SendRefused told tale old new p = (new.state.sent ≡ old.state.sent) × MakesSteps told tale (send_begun old.state.machine (length p)) p old new
 
-abbrev pub TakeRefused : {S : Type 0} → (S → Option Told) → (S → Option Memory) → Driven S → Driven S → Type 0
-TakeRefused told memory old new = (new.state.got ≡ old.state.got) × MakesSteps told memory (take_begun old.state.machine) [] old new
+abbrev pub TakeRefused : {S : Type 0} → (S → Option Told) → (S → Tale) → Driven S → Driven S → Type 0
+TakeRefused told tale old new = (new.state.got ≡ old.state.got) × MakesSteps told tale (take_begun old.state.machine) [] old new
 
 -- why a packet didn't pass: the send was refused; or it went, and the take was refused, or took other words
-abbrev pub FailsToPass : {S T : Type 0} → (S → Option Told) → (S → Option Memory) → (T → Option Told) → (T → Option Memory) → Driven S → Driven S → Driven T → Driven T → List ℕ → Type 0
-FailsToPass told memory told' memory' from from' to to' p =
-    SendRefused told memory from from' p ⊎ ((from'.state.sent ≡ from.state.sent ++ p ∷ []) × (TakeRefused told' memory' to to' ⊎ ((to'.state.got ≡ to.state.got ++ to'.taken ∷ []) × (to'.taken ≢ p))))
+abbrev pub FailsToPass : {S T : Type 0} → (S → Option Told) → (S → Tale) → (T → Option Told) → (T → Tale) → Driven S → Driven S → Driven T → Driven T → List ℕ → Type 0
+FailsToPass told tale told' tale' from from' to to' p =
+    SendRefused told tale from from' p ⊎ ((from'.state.sent ≡ from.state.sent ++ p ∷ []) × (TakeRefused told' tale' to to' ⊎ ((to'.state.got ≡ to.state.got ++ to'.taken ∷ []) × (to'.taken ≢ p))))

@@ -3,7 +3,7 @@ ghost use Rattle.std.specs.Prelude.{◌≡◌, ◌++◌, ◌∷◌, [], IsTrue, 
 ghost use Rattle.example_calls.specs.Calls.{IsFree, CanPass, FailsToPass};
 
 use ring_core::{Seatlike, is_packet};
-use ring_stream::DriverEnd;
+use ring_lean_end::DriverEnd;
 
 /// Whether an end may make each call but a poll.
 pub fn is_free<S: Seatlike>(end: &DriverEnd<S>) -> bool
@@ -23,7 +23,7 @@ pub fn pass_one<S: Seatlike, T: Seatlike>(
     ensures sent { IsTrue result → from.new.state.sent ≡ from.old.state.sent ++ packet.now ∷ [] }
     ensures got { IsTrue result → to.new.state.got ≡ to.old.state.got ++ packet.now ∷ [] }
     ensures room { IsTrue result → to.new.state.machine.start ≡ to.new.state.machine.read }
-    ensures only { CanPass from.old to.old packet.now → (result ≡ false) → FailsToPass S.told S.memory T.told T.memory from.old from.new to.old to.new packet.now }
+    ensures only { CanPass from.old to.old packet.now → (result ≡ false) → FailsToPass S.told S.tale T.told T.tale from.old from.new to.old to.new packet.now }
 {
     if !is_free(from) || !is_free(to) || !is_packet(packet) {
         return false;

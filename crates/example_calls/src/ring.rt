@@ -14,7 +14,7 @@ use ring_core::{End, Seatlike, SendRefusal, Signalled, TakeRefusal, may_send, ma
 pub fn send_one<S: Seatlike>(end: &mut End<S>, p: &[u64]) -> Option<Result<Signalled, SendRefusal>>
     ensures sent { IfSome result (λ r. OnOk r (end.new.state.sent ≡ end.old.state.sent ++ p.now ∷ [])) }
     ensures refused { IfSome result (λ r. OnErr r (end.new.state.sent ≡ end.old.state.sent)) }
-    ensures made { IfSome result (λ r. (r ≡ send_answer end.new.state.machine.ended end.new.state.machine) × MakesSteps S.told S.memory (send_begun end.old.state.machine (length p.now)) p.now end.old end.new) }
+    ensures made { IfSome result (λ r. (r ≡ send_answer end.new.state.machine.ended end.new.state.machine) × MakesSteps S.told S.tale (send_begun end.old.state.machine (length p.now)) p.now end.old end.new) }
     ensures not { IfNone result ((end.new ≡ end.old) × (CanSend end.old p.now → ⊥)) }
 {
     if !end.is_ready() || !may_send(end, p) {
@@ -27,7 +27,7 @@ pub fn send_one<S: Seatlike>(end: &mut End<S>, p: &[u64]) -> Option<Result<Signa
 /// end's list of those that it got. The answer is none exactly where the end may not take.
 pub fn take_one<S: Seatlike>(end: &mut End<S>) -> Option<Result<Signalled, TakeRefusal>>
     ensures got { IfSome result (λ r. OnOk r ((words : List ℕ) × (IsPacket words × (end.new.state.got ≡ end.old.state.got ++ words ∷ []) × (end.new.state.machine.start ≡ end.new.state.machine.read)))) }
-    ensures refused { IfSome result (λ r. IfErr r (λ e. (end.new.state.got ≡ end.old.state.got) × Takes S S.told S.memory S.same end.old end.new (Some e))) }
+    ensures refused { IfSome result (λ r. IfErr r (λ e. (end.new.state.got ≡ end.old.state.got) × Takes S S.told S.tale S.same end.old end.new (Some e))) }
     ensures not { IfNone result ((end.new ≡ end.old) × (CanTake end.old → ⊥)) }
 {
     if end.pages() != 0 || !end.is_ready() || !may_take(end) {

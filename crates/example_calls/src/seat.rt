@@ -57,12 +57,13 @@ impl<W: Words> SharedSeat<W> {
 
 impl<W: Words> Seatlike for SharedSeat<W> {
     ghost use Rattle.std.specs.Prelude.{None, refl};
+    ghost use Rattle.ring_core.specs.Told.{tells_nothing};
 
     ghost cells = { λ s. s.cells };
 
     ghost pages = { λ _. 0 };
 
-    ghost memory = { λ _. None };
+    ghost tale = { λ _. tells_nothing };
 
     ghost told = { λ _. None };
 

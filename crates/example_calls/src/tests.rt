@@ -7,7 +7,7 @@ use crate::{
 };
 use gpadl::Assembler;
 use ring_core::{End, Room, Side, Signalled, SoloMem};
-use ring_stream::DriverEnd;
+use ring_lean_end::DriverEnd;
 use scsi_disk::Disk;
 use std::process::Abort;
 use stor_proto::Vstor;

@@ -10,11 +10,13 @@ use Rattle.page_kept.specs.Kept.{first_owner, first_page, is_held, lent_words, m
 use Rattle.pkt_desc.specs.Packets.{kind_of, id_of}
 use Rattle.page_kept.specs.Layouts.{Loan, layout}
 use Rattle.page_table.specs.declared.loan.Loan.{Loan as Part}
+use Rattle.page_table.specs.Ids.{Counts}
 
--- what the end has to do with each page, and its copy of their words, 512 a page
+-- what the end has to do with each page, its copy of their words, 512 a page, and the balances of its ids
 pub record Table : Type 0 where
   pub owners : List Owner
   pub copy : List ℕ
+  pub counts : Counts
 
 -- a word of a copy: 0 where there is none
 abbrev pub word_of : List ℕ → ℕ → ℕ → ℕ

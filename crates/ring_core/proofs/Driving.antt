@@ -7,15 +7,11 @@ use Rattle.channel_trace.specs.declared.event.Event.TheVariants.{Got as GotEvent
 use Rattle.ring_machine.specs.declared.machine.Stage.{Stage}
 use Rattle.ring_machine.specs.declared.machine.Stage.TheVariants.{Idle, Stopped, SendRead, TakeWrite, CommitRead, ArmPending, ArmMask, PollSignal, MarkStore, PeerMark}
 use Rattle.ring_machine.specs.declared.machine.Ending.{Ending}
-use Rattle.ring_machine.specs.declared.machine.Ending.TheVariants.{Fresh, SentQuiet, SentRaised, Full, BadPeer, Took, Empty, BadIndex, BadLength, BadOffset, CommittedQuiet, CommittedRaised, FellAsleep, FoundWork, NoSignal, Woke, Marked, PeerMarkDown, PeerMarkUp}
+use Rattle.ring_machine.specs.declared.machine.Ending.TheVariants.{SentQuiet, SentRaised, Full, BadPeer, Took, Empty, BadIndex, BadLength, BadOffset, CommittedQuiet, CommittedRaised, FellAsleep, NoSignal, Marked}
 use Rattle.ring_machine.specs.declared.machine.EndMachine.{EndMachine}
 use Rattle.ring_machine.specs.declared.state.EndState.{EndState}
 use Rattle.ring_machine.specs.declared.place.Op.{Op}
 use Rattle.page_kept.specs.declared.kept.Kept.{Kept}
-use Rattle.page_table.specs.Table.{Table}
-use Rattle.ring_machine.specs.declared.page_core.PageCore.{PageCore}
-use Rattle.ring_core.specs.Seen.{Listed}
-use Rattle.ring_core.specs.Pages.{ArePages}
 use Rattle.page_kept.specs.declared.due.Due.TheVariants.{Clear}
 use Rattle.page_kept.specs.declared.page_call.PageCall.TheVariants.{Off}
 use Rattle.ring_machine.specs.EndCalls.{EndCall, Send, Take, Commit, Arm, Poll, Mark}
@@ -27,10 +23,11 @@ use Rattle.ring_machine.specs.Endings.{Leaves, LeavesBy, is_committed, is_dozed,
 use Rattle.ring_core.specs.Taking.{is_honest_take}
 use Rattle.ring_core.specs.Going.{Counts, Going}
 use Rattle.ring_core.specs.declared.told.Told.{Told}
-use Rattle.ring_core.specs.Told.{Memory, pair, step, step_by, run, memory_after, answer_of, raises_at, wakes_at, raises_of, wakes_of, told_at, told_next, told_by, Ran, Left}
+use Rattle.ring_core.specs.Told.{HeardJust, Memory, pair, step, step_by, run, memory_after, answer_of, raises_at, wakes_at, raises_of, wakes_of, told_at, told_next, told_by, Ran, Left, Tale}
 use Rattle.ring_machine.proofs.Sound.{at_cond, fed_made, no_true}
-use Rattle.ring_machine.proofs.PageMoves.{pages_at, pages_moved, pages_over}
-use Rattle.ring_machine.proofs.Tables.{copied_by, fed_cells, busy_next, Lists, lists_by, Moves, moves_by, w_at, r_at, s_at, a_at, k_at, write_at, read_at, start_at, asleep_at, marked_at, Form, is_formed, form_by}
+use Rattle.ring_machine.proofs.PageMoves.{pages_moved, pages_over}
+use Rattle.ring_machine.specs.Moves.{Lists, Moves, write_at, read_at, start_at, asleep_at, marked_at, Form, is_formed, pages_at}
+use Rattle.ring_machine.proofs.Tables.{copied_by, fed_cells, busy_next, lists_by, moves_by, w_at, r_at, s_at, a_at, k_at, form_by}
 
 -- what holds at the first step of a call
 record Opens (st : Stage) : Type 0 where
@@ -87,9 +84,9 @@ still Idle xs n = refl
 still Stopped xs n = refl
 still _ xs n = absurd (cc)
 
-pub going_first : (told : Option Told) (memory : Option Memory) (m : EndMachine) (p buf : List ℕ) (sent got : List (List ℕ)) (past : List (Event (List ℕ))) (k : Kept) → length buf ≡ m.cells → IsSound m → Starts m
-    → ((u : Told) → told ≡ Some u → Continues u.state m p × (entered u.state m p ≡ shown m p buf sent got past k)) → Going (shown m p buf sent got past k) told told memory memory m p buf
-going_first told memory m p buf sent got past k w s h may =
+pub going_first : (told : Option Told) (tale : Tale) (m : EndMachine) (p buf : List ℕ) (sent got : List (List ℕ)) (past : List (Event (List ℕ))) (k : Kept) → length buf ≡ m.cells → IsSound m → Starts m
+    → ((u : Told) → told ≡ Some u → Continues u.state m p × (entered u.state m p ≡ shown m p buf sent got past k)) → Going (shown m p buf sent got past k) told told tale tale m p buf
+going_first told tale m p buf sent got past k w s h may =
     let o = opens m.stage h.opens in
     record {
       values = [];
@@ -109,13 +106,15 @@ going_first told memory m p buf sent got past k w s h may =
       tells = λ u e b. (u, e, (may u e).0, (may u e).1, record { steps = omega arith; raised = omega arith; woke = omega arith });
       ends = λ u e n. absurd (no_true n o.busy);
       runs = λ a e. (a, e, refl);
+      hears = λ vs e. e;
     }
 
-module _ (base : EndState) (told told' told'' : Option Told) (memory memory' memory'' : Option Memory) (m : EndMachine) (p buf : List ℕ) (v : ℕ)
-    (s : IsSound m) (b : is_busy_at m.stage ≡ true) (it : Going base told told' memory memory' m p buf)
+module _ (base : EndState) (told told' told'' : Option Told) (tale tale' tale'' : Tale) (m : EndMachine) (p buf : List ℕ) (v : ℕ)
+    (s : IsSound m) (b : is_busy_at m.stage ≡ true) (it : Going base told told' tale tale' m p buf)
     (quiet : told' ≡ None → told'' ≡ None)
     (tells : (u : Told) → told' ≡ Some u → (told'' ≡ Some (told_next (told_at u m p) v)) × ((fed m v).stage ≢ Stopped))
-    (runs : (k : Memory) (op : Op) → memory' ≡ Some k → next_of m p ≡ Some op → (memory'' ≡ Some (memory_after m.cells op k)) × (v ≡ answer_of m.cells op k)) where
+    (runs : (k : Memory) (op : Op) → tale'.memory ≡ Some k → next_of m p ≡ Some op → (tale''.memory ≡ Some (memory_after m.cells op k)) × (v ≡ answer_of m.cells op k))
+    (hears : HeardJust tale' tale'' (v ∷ [])) where
   same_packet : it.state.packet ≡ p
   same_packet = it.packet ∙ ap (λ (t : Bool). cond t p []) b
 
@@ -188,7 +187,7 @@ module _ (base : EndState) (told told' told'' : Option Told) (memory memory' mem
   next_packet : (after it.state v).packet ≡ kept_at (fed m v).stage p
   next_packet = ap (λ (k : EndMachine). kept_at (fed k v).stage it.state.packet) it.machine ∙ ap (kept_at (fed m v).stage) same_packet
 
-  next_run : (k : Memory) → memory ≡ Some k → (k' : Memory) × (memory'' ≡ Some k') × (run (suc (length it.values)) (pair base k) ≡ pair (after it.state v) k')
+  next_run : (k : Memory) → tale.memory ≡ Some k → (k' : Memory) × (tale''.memory ≡ Some k') × (run (suc (length it.values)) (pair base k) ≡ pair (after it.state v) k')
   next_run k e =
       let r = it.runs k e in
       let o = busy_next m p m.stage b in
@@ -203,7 +202,7 @@ module _ (base : EndState) (told told' told'' : Option Told) (memory memory' mem
             ∙ ap (λ (w : ℕ). pair (after it.state w) (memory_after m.cells o.0 r.0)) (sym t.1))),
       )
 
-  pub going_on : Going base told told'' memory memory'' (fed m v) p (stored (is_copying_at m.stage) buf m.done v)
+  pub going_on : Going base told told'' tale tale'' (fed m v) p (stored (is_copying_at m.stage) buf m.done v)
   going_on = record {
     values = v ∷ it.values;
     state = after it.state v;
@@ -229,13 +228,14 @@ module _ (base : EndState) (told told' told'' : Option Told) (memory memory' mem
         );
     ends = λ u e n. next_told u e;
     runs = next_run;
+    hears = λ vs e. hears (it.values ++ vs) (it.hears vs e);
   }
 
 -- what the seat asks at the next step
-pub going_asks : (base : EndState) (told told' : Option Told) (memory memory' : Option Memory) (m : EndMachine) (p buf : List ℕ) → Going base told told' memory memory' m p buf → is_busy_at m.stage ≡ true
+pub going_asks : (base : EndState) (told told' : Option Told) (tale tale' : Tale) (m : EndMachine) (p buf : List ℕ) → Going base told told' tale tale' m p buf → is_busy_at m.stage ≡ true
     → (s : Told) → told' ≡ Some s → Continues s.state m p
-going_asks base None told' memory memory' m p buf it b s e = absurd (none_some (sym (it.silent refl) ∙ e))
-going_asks base (Some u) told' memory memory' m p buf it b s e =
+going_asks base None told' tale tale' m p buf it b s e = absurd (none_some (sym (it.silent refl) ∙ e))
+going_asks base (Some u) told' tale tale' m p buf it b s e =
     let t = it.tells u refl b in
     let same : t.0 ≡ s = cc in
     subst (λ (x : Told). Continues x.state m p) same t.2
@@ -243,13 +243,13 @@ going_asks base (Some u) told' memory memory' m p buf it b s e =
 rested : (t : EndState) (m : EndMachine) (sent got : List (List ℕ)) (past : List (Event (List ℕ))) (k : Kept) → t.machine ≡ m → t.packet ≡ [] → t.copied ≡ [] → t.sent ≡ sent → t.got ≡ got → t.past ≡ past → t.pages ≡ k → t ≡ resting_with m sent got past k
 rested t m sent got past k a b c d e f g = λ i. record { machine = a i; packet = b i; copied = c i; sent = d i; got = e i; past = f i; pages = g i }
 
-left_by : (base : EndState) (told told' : Option Told) (memory memory' : Option Memory) (m : EndMachine) (sent got : List (List ℕ)) (past : List (Event (List ℕ))) (k : Kept) (t : EndState) → t ≡ resting_with m sent got past k → Ran base t told told' memory memory' → Left base told told' memory memory' m sent got past k
-left_by base None told' memory memory' m sent got past k t e r = record {
-  ran = subst (λ (x : EndState). Ran base x None told' memory memory') e r;
+left_by : (base : EndState) (told told' : Option Told) (tale tale' : Tale) (m : EndMachine) (sent got : List (List ℕ)) (past : List (Event (List ℕ))) (k : Kept) (t : EndState) → t ≡ resting_with m sent got past k → Ran base t told told' tale tale' → Left base told told' tale tale' m sent got past k
+left_by base None told' tale tale' m sent got past k t e r = record {
+  ran = subst (λ (x : EndState). Ran base x None told' tale tale') e r;
   told_is = λ s h. absurd (none_some (sym (r.silent refl) ∙ h));
 }
-left_by base (Some u) told' memory memory' m sent got past k t e r = record {
-  ran = subst (λ (x : EndState). Ran base x (Some u) told' memory memory') e r;
+left_by base (Some u) told' tale tale' m sent got past k t e r = record {
+  ran = subst (λ (x : EndState). Ran base x (Some u) told' tale tale') e r;
   told_is = λ s h. let same : told_by base r.values t u ≡ s = cc ((r.tells u refl).0) in sym (ap (λ (x : Told). x.state) same) ∙ e;
 }
 
@@ -314,7 +314,7 @@ packet_of n buf le f =
       offset = subst (λ (x : ℕ). (2 ≤ offset8_of x) × (offset8_of x ≤ length (take n buf))) (sym same) (f.offset.0, omega (arith, f.offset.1, long));
     }
 
-module _ (base : EndState) (told told' : Option Told) (memory memory' : Option Memory) (m : EndMachine) (p buf : List ℕ) (it : Going base told told' memory memory' m p buf) (s : IsSound m) (n : is_busy_at m.stage ≡ false) where
+module _ (base : EndState) (told told' : Option Told) (tale tale' : Tale) (m : EndMachine) (p buf : List ℕ) (it : Going base told told' tale tale' m p buf) (s : IsSound m) (n : is_busy_at m.stage ≡ false) where
   pub going_calls : call_by m.ended ≡ call_at base.machine.stage
   going_calls = (it.lists.ended n).0
 
@@ -324,11 +324,11 @@ module _ (base : EndState) (told told' : Option Told) (memory memory' : Option M
   pub going_took : is_took m.ended ≡ true → IsPacket (take m.len buf)
   going_took h = packet_of m.len buf (omega (arith, s.len, it.wide)) (it.form (formed_end m s m.stage refl n h))
 
-  pub going_ran : Left base told told' memory memory' m (sent_by m base.sent p) (got_by m base.got buf) (past_by m base.past p buf) (pages_by m base.pages p buf)
+  pub going_ran : Left base told told' tale tale' m (sent_by m base.sent p) (got_by m base.got buf) (past_by m base.past p buf) (pages_by m base.pages p buf)
   going_ran =
       let same : it.state ≡ resting_with m (sent_by m base.sent p) (got_by m base.got buf) (past_by m base.past p buf) (pages_by m base.pages p buf) =
       rested it.state m _ _ _ _ it.machine (it.packet ∙ ap (λ (t : Bool). cond t p []) n) (it.copied ∙ still m.stage (take m.done buf) n) (it.lists.ended n).1 (it.lists.ended n).2 (it.lists.ended n).3 (it.pages ∙ pages_over m base.pages p buf m.stage n) in
-      left_by base told told' memory memory' m _ _ _ _ it.state same
+      left_by base told told' tale tale' m _ _ _ _ it.state same
       (record {
         values = it.values;
         state = it.is_after;
@@ -337,16 +337,13 @@ module _ (base : EndState) (told told' : Option Told) (memory memory' : Option M
         silent = it.silent;
         tells = λ u e. ((it.ends u e n).0, λ h. (it.ends u e n).1 (sym (ap (λ (k : EndMachine). k.stage) it.machine) ∙ h));
         runs = it.runs;
+        hears = it.hears;
       })
 
--- the pages are as they should be, where none of their parts is changed
-pub pages_stay : (k k' : PageCore) (s s' g g' : Listed) (t t' : Table) → ArePages k s g t → k' ≡ k → s' ≡ s → g' ≡ g → t' ≡ t → ArePages k' s' g' t'
-pages_stay k k' s s' g g' t t' fit a b c d = subst (λ (z : PageCore × Listed × Listed × Table). ArePages z.0 z.1 z.2 z.3) (λ i. (sym a i, sym b i, sym c i, sym d i)) fit
-
-pub going_honest : (base : EndState) (told told' : Option Told) (memory memory' : Option Memory) (m : EndMachine) (p buf : List ℕ) → Going base told told' memory memory' m p buf → is_busy_at m.stage ≡ false
+pub going_honest : (base : EndState) (told told' : Option Told) (tale tale' : Tale) (m : EndMachine) (p buf : List ℕ) → Going base told told' tale tale' m p buf → is_busy_at m.stage ≡ false
     → (u : Told) → told' ≡ Some u → m.stage ≢ Stopped
-going_honest base None told' memory memory' m p buf it n u e = absurd (none_some (sym (it.silent refl) ∙ e))
-going_honest base (Some t) told' memory memory' m p buf it n u e = (it.ends t refl n).1
+going_honest base None told' tale tale' m p buf it n u e = absurd (none_some (sym (it.silent refl) ∙ e))
+going_honest base (Some t) told' tale tale' m p buf it n u e = (it.ends t refl n).1
 
 -- the buffer stays as long as the ring
 pub stored_wide : (b : Bool) (m k : EndMachine) (buf buf' : List ℕ) (v : ℕ) → length buf ≡ m.cells → k ≡ fed m v → buf' ≡ stored b buf m.done v → length buf' ≡ k.cells
@@ -375,25 +372,19 @@ record Called (how : Ending) : Type 0 where
   broken : is_broken how ≡ true → (call_by how ≡ Send → ⊥) → (call_by how ≡ Take → ⊥) → ⊥
 
 called : (how : Ending) → Called how
-called Fresh = record { sent = λ h. absurd (cc); took = λ h. absurd (cc); committed = λ h. absurd (cc); commits = λ h. absurd (cc); dozed = λ h x y. absurd (cc); marked = λ h. absurd (cc); marks = λ h. absurd (cc); broken = λ h x y. absurd (cc) }
 called SentQuiet = record { sent = λ h. refl; took = λ h. absurd (cc); committed = λ h. absurd (cc); commits = λ h. absurd (cc); dozed = λ h x y. absurd (cc); marked = λ h. absurd (cc); marks = λ h. absurd (cc); broken = λ h x y. absurd (cc) }
 called SentRaised = record { sent = λ h. refl; took = λ h. absurd (cc); committed = λ h. absurd (cc); commits = λ h. absurd (cc); dozed = λ h x y. absurd (cc); marked = λ h. absurd (cc); marks = λ h. absurd (cc); broken = λ h x y. absurd (cc) }
-called Full = record { sent = λ h. absurd (cc); took = λ h. absurd (cc); committed = λ h. absurd (cc); commits = λ h. absurd (cc); dozed = λ h x y. absurd (cc); marked = λ h. absurd (cc); marks = λ h. absurd (cc); broken = λ h x y. absurd (cc) }
 called BadPeer = record { sent = λ h. absurd (cc); took = λ h. absurd (cc); committed = λ h. absurd (cc); commits = λ h. absurd (cc); dozed = λ h x y. absurd (cc); marked = λ h. absurd (cc); marks = λ h. absurd (cc); broken = λ h x y. x refl }
 called Took = record { sent = λ h. absurd (cc); took = λ h. refl; committed = λ h. absurd (cc); commits = λ h. absurd (cc); dozed = λ h x y. absurd (cc); marked = λ h. absurd (cc); marks = λ h. absurd (cc); broken = λ h x y. absurd (cc) }
-called Empty = record { sent = λ h. absurd (cc); took = λ h. absurd (cc); committed = λ h. absurd (cc); commits = λ h. absurd (cc); dozed = λ h x y. absurd (cc); marked = λ h. absurd (cc); marks = λ h. absurd (cc); broken = λ h x y. absurd (cc) }
 called BadIndex = record { sent = λ h. absurd (cc); took = λ h. absurd (cc); committed = λ h. absurd (cc); commits = λ h. absurd (cc); dozed = λ h x y. absurd (cc); marked = λ h. absurd (cc); marks = λ h. absurd (cc); broken = λ h x y. y refl }
 called BadLength = record { sent = λ h. absurd (cc); took = λ h. absurd (cc); committed = λ h. absurd (cc); commits = λ h. absurd (cc); dozed = λ h x y. absurd (cc); marked = λ h. absurd (cc); marks = λ h. absurd (cc); broken = λ h x y. y refl }
 called BadOffset = record { sent = λ h. absurd (cc); took = λ h. absurd (cc); committed = λ h. absurd (cc); commits = λ h. absurd (cc); dozed = λ h x y. absurd (cc); marked = λ h. absurd (cc); marks = λ h. absurd (cc); broken = λ h x y. y refl }
 called CommittedQuiet = record { sent = λ h. absurd (cc); took = λ h. absurd (cc); committed = λ h. refl; commits = λ h. refl; dozed = λ h x y. absurd (cc); marked = λ h. absurd (cc); marks = λ h. absurd (cc); broken = λ h x y. absurd (cc) }
 called CommittedRaised = record { sent = λ h. absurd (cc); took = λ h. absurd (cc); committed = λ h. refl; commits = λ h. refl; dozed = λ h x y. absurd (cc); marked = λ h. absurd (cc); marks = λ h. absurd (cc); broken = λ h x y. absurd (cc) }
 called FellAsleep = record { sent = λ h. absurd (cc); took = λ h. absurd (cc); committed = λ h. absurd (cc); commits = λ h. absurd (cc); dozed = λ h x y. x refl; marked = λ h. absurd (cc); marks = λ h. absurd (cc); broken = λ h x y. absurd (cc) }
-called FoundWork = record { sent = λ h. absurd (cc); took = λ h. absurd (cc); committed = λ h. absurd (cc); commits = λ h. absurd (cc); dozed = λ h x y. absurd (cc); marked = λ h. absurd (cc); marks = λ h. absurd (cc); broken = λ h x y. absurd (cc) }
 called NoSignal = record { sent = λ h. absurd (cc); took = λ h. absurd (cc); committed = λ h. absurd (cc); commits = λ h. absurd (cc); dozed = λ h x y. y refl; marked = λ h. absurd (cc); marks = λ h. absurd (cc); broken = λ h x y. absurd (cc) }
-called Woke = record { sent = λ h. absurd (cc); took = λ h. absurd (cc); committed = λ h. absurd (cc); commits = λ h. absurd (cc); dozed = λ h x y. absurd (cc); marked = λ h. absurd (cc); marks = λ h. absurd (cc); broken = λ h x y. absurd (cc) }
 called Marked = record { sent = λ h. absurd (cc); took = λ h. absurd (cc); committed = λ h. absurd (cc); commits = λ h. absurd (cc); dozed = λ h x y. absurd (cc); marked = λ h. refl; marks = λ h. refl; broken = λ h x y. absurd (cc) }
-called PeerMarkDown = record { sent = λ h. absurd (cc); took = λ h. absurd (cc); committed = λ h. absurd (cc); commits = λ h. absurd (cc); dozed = λ h x y. absurd (cc); marked = λ h. absurd (cc); marks = λ h. absurd (cc); broken = λ h x y. absurd (cc) }
-called PeerMarkUp = record { sent = λ h. absurd (cc); took = λ h. absurd (cc); committed = λ h. absurd (cc); commits = λ h. absurd (cc); dozed = λ h x y. absurd (cc); marked = λ h. absurd (cc); marks = λ h. absurd (cc); broken = λ h x y. absurd (cc) }
+called _ = record { sent = λ h. absurd (cc); took = λ h. absurd (cc); committed = λ h. absurd (cc); commits = λ h. absurd (cc); dozed = λ h x y. absurd (cc); marked = λ h. absurd (cc); marks = λ h. absurd (cc); broken = λ h x y. absurd (cc) }
 
 module _ (b m : EndMachine) (h : Leaves b m) (n : EndCall) (call : call_by m.ended ≡ n) where
   all : Called m.ended
@@ -420,25 +411,8 @@ module _ (b m : EndMachine) (h : Leaves b m) (n : EndCall) (call : call_by m.end
 
 -- only a take changes the past by the words in its buffer
 pub past_other : (how : Ending) (m : EndMachine) (past : List (Event (List ℕ))) (p buf : List ℕ) → is_took how ≡ false → past_by_ending how m past p buf ≡ past_of how m.saw p past
-past_other Fresh m past p buf n = refl
-past_other SentQuiet m past p buf n = refl
-past_other SentRaised m past p buf n = refl
-past_other Full m past p buf n = refl
-past_other BadPeer m past p buf n = refl
 past_other Took m past p buf n = absurd (cc)
-past_other Empty m past p buf n = refl
-past_other BadIndex m past p buf n = refl
-past_other BadLength m past p buf n = refl
-past_other BadOffset m past p buf n = refl
-past_other CommittedQuiet m past p buf n = refl
-past_other CommittedRaised m past p buf n = refl
-past_other FellAsleep m past p buf n = refl
-past_other FoundWork m past p buf n = refl
-past_other NoSignal m past p buf n = refl
-past_other Woke m past p buf n = refl
-past_other Marked m past p buf n = refl
-past_other PeerMarkDown m past p buf n = refl
-past_other PeerMarkUp m past p buf n = refl
+past_other _ m past p buf n = refl
 
 pub past_took : (how : Ending) (m : EndMachine) (past : List (Event (List ℕ))) (p buf : List ℕ) → is_took how ≡ true → past_by_ending how m past p buf ≡ GotEvent (take m.len buf) ∷ past
 past_took Took m past p buf h = refl

@@ -1,5 +1,5 @@
 -- Page words that an end stores one after another.
-use Rattle.std.proofs.Common.{◌≡◌, ◌≢◌, ℕ, zero, suc, ◌+◌, ◌*◌, ◌<◌, ◌≤◌, ◌==◌, Bool, true, false, cond, leb, ltb, take, List, [], ◌∷◌, ◌++◌, length, get_or, set, Option, Some, None, refl, sym, ap, ◌∙◌, subst, arith, length-append, length-set}
+use Rattle.std.proofs.Common.{◌≡◌, ◌≢◌, ℕ, zero, suc, ◌+◌, ◌*◌, ◌<◌, ◌≤◌, ◌==◌, Bool, true, false, cond, leb, ltb, take, List, [], ◌∷◌, ◌++◌, length, get_or, set, Option, Some, None, refl, sym, ap, ◌∙◌, subst, arith, length-append, length-set, append_assoc}
 use Rattle.std.specs.Prelude.{IfSome}
 use Rattle.std.proofs.lemmas.Bool.Decides.{nat_tests}
 use Rattle.std.proofs.lemmas.List.{get_or-set_same, get_or-set_other, length-take-le, take-append-le}
@@ -24,10 +24,10 @@ use Rattle.ring_machine.specs.States.{MayLend}
 use Rattle.ring_core.specs.declared.told.Told.{Told}
 use Rattle.ring_core.specs.Laying.{laid_at, stored_all, memory_stored, RanStores}
 use Rattle.ring_core.specs.PageRuns.{RanPages, page_run, told_paged}
-use Rattle.ring_core.specs.Pages.{along, last_words, part_len}
-use Rattle.ring_core.specs.Told.{Memory, Pair, memory_after, pair}
+use Rattle.ring_core.specs.Pages.{along, last_words, part_len, part_words}
+use Rattle.ring_core.specs.Told.{Memory, Pair, memory_after, pair, Tale}
 use Rattle.ring_core.proofs.Lendable.{store_may}
-use Rattle.ring_core.proofs.Paging.{first_of, last_more, none_along, other_of, values_long}
+use Rattle.ring_core.proofs.Paging.{first_of, last_more, none_along, other_of, part_long, values_long}
 
 -- one word more
 pub stored_more : (k : Kept) (q w n : ℕ) (xs : List ℕ) (v : ℕ) → n ≡ w + length xs → stored_all k q w (xs ++ v ∷ []) ≡ page_stored (stored_all k q w xs) q n v
@@ -44,19 +44,24 @@ stored_is k q w [] = refl
 stored_is k q w (x ∷ xs) = stored_is (page_stored k q w x) q (w + 1) xs
 
 -- the stores, one by one
-pub stores_first : (s : EndState) (q : ℕ) (told : Option Told) (memory : Option Memory) → ((u : Told) → told ≡ Some u → u.state ≡ s) → RanStores s s q [] told told memory memory
-stores_first s q told memory at = record {
+pub stores_first : (s : EndState) (q : ℕ) (told : Option Told) (tale : Tale) → ((u : Told) → told ≡ Some u → u.state ≡ s) → RanStores s s q [] told told tale tale
+stores_first s q told tale at = record {
+  values = [];
   state = refl;
+  each = refl;
   silent = λ e. e;
   tells = λ u e. (let steps : u.steps ≡ u.steps + 0 = omega arith in e ∙ (λ i. Some (record { state = at u e i; steps = steps i; raised = u.raised; woke = u.woke })));
   runs = λ m e. e;
+  hears = λ vs e. e;
 }
 
-module _ (s t t' : EndState) (q n v : ℕ) (xs : List ℕ) (told told' told'' : Option Told) (memory memory' memory'' : Option Memory) where
-  pub stores_more : n ≡ length xs → RanStores s t q xs told told' memory memory' → RanPages t t' (StoreWord q n v) told' told'' memory' memory'' → t' ≡ with_pages t (page_stored t.pages q n v)
-      → RanStores s t' q (xs ++ v ∷ []) told told'' memory memory''
+module _ (s t t' : EndState) (q n v : ℕ) (xs : List ℕ) (told told' told'' : Option Told) (tale tale' tale'' : Tale) where
+  pub stores_more : n ≡ length xs → RanStores s t q xs told told' tale tale' → RanPages t t' (StoreWord q n v) told' told'' tale' tale'' → t' ≡ with_pages t (page_stored t.pages q n v)
+      → RanStores s t' q (xs ++ v ∷ []) told told'' tale tale''
   stores_more long it r e = record {
+    values = r.values ++ it.values;
     state = e ∙ (ap (λ (x : EndState). with_pages x (page_stored x.pages q n v)) it.state ∙ ap (with_pages s) (sym (stored_more s.pages q 0 n xs v (omega (arith, long)))));
+    each = omega (arith, length-append r.values it.values, r.each, it.each, length-append xs (v ∷ []));
     silent = λ h. r.silent (it.silent h);
     tells = λ u h.
         let steps : (u.steps + length xs) + length r.values ≡ u.steps + length (xs ++ v ∷ []) = omega (arith, r.each, length-append xs (v ∷ [])) in
@@ -68,12 +73,13 @@ module _ (s t t' : EndState) (q n v : ℕ) (xs : List ℕ) (told told' told'' : 
         let is : memory_after t.machine.cells (Store (Page q n) v) old ≡ go.0 = ap (λ (x : Pair). x.memory) one in
         go.1
         ∙ ap Some (sym is ∙ (ap (λ (x : EndState). memory_after x.machine.cells (Store (Page q n) v) old) it.state ∙ sym (memory_more s.machine.cells q 0 n xs v m (omega (arith, long)))));
+    hears = λ vs h. r.hears (it.values ++ vs) (it.hears vs h) ∙ ap Some (sym (append_assoc r.values it.values vs));
   }
 
 -- what the seat tells is where the stores are
-pub stores_told : (s t : EndState) (q : ℕ) (xs : List ℕ) (told told' : Option Told) (memory memory' : Option Memory) → RanStores s t q xs told told' memory memory' → (u : Told) → told' ≡ Some u → u.state ≡ t
-stores_told s t q xs None told' memory memory' it u e = absurd (let z : None ≡ Some u = sym (it.silent refl) ∙ e in cc)
-stores_told s t q xs (Some a) told' memory memory' it u e =
+pub stores_told : (s t : EndState) (q : ℕ) (xs : List ℕ) (told told' : Option Told) (tale tale' : Tale) → RanStores s t q xs told told' tale tale' → (u : Told) → told' ≡ Some u → u.state ≡ t
+stores_told s t q xs None told' tale tale' it u e = absurd (let z : None ≡ Some u = sym (it.silent refl) ∙ e in cc)
+stores_told s t q xs (Some a) told' tale tale' it u e =
     let same : told_paged (length xs) t a ≡ u = (let z : Some (told_paged (length xs) t a) ≡ Some u = sym (it.tells a refl) ∙ e in cc) in
     ap (λ (x : Told). x.state) (sym same)
 
@@ -84,42 +90,47 @@ by_test false t f = f refl
 same_loan : (a b : Loan) → Some a ≡ Some b → a ≡ b
 same_loan a b e = cc
 
--- the words that go along with a packet are those of its part
-sent_long : (k : Kept) (p ws : List ℕ) (os : List Owner) → length (last_words (with_sent k p ws os).sent) ≡ length ws
-sent_long k p ws os = ap length (last_more k.sent (item_of p ws))
-
-back_long : (k : Kept) (p : List ℕ) (at : Option ℕ) (o : Option Part) → loans o ≡ held_part k.owners at → length (last_words (gives_back k p at).sent) ≡ part_len o
-back_long k p None None e = sent_long k p [] k.owners
-back_long k p None (Some a) e = absurd (cc)
-back_long k p (Some q) None e = absurd (cc)
-back_long k p (Some q) (Some a) e =
+-- a packet that is sent takes the words of its part along
+back_into : (k : Kept) (p : List ℕ) (at : Option ℕ) (o : Option Part) → loans o ≡ held_part k.owners at → gives_back k p at ≡ with_sent k p (part_words k.copy o) (gives_back k p at).owners
+back_into k p None None e = refl
+back_into k p None (Some a) e = absurd (cc)
+back_into k p (Some q) None e = absurd (cc)
+back_into k p (Some q) (Some a) e =
     let same : loan_of a ≡ record { page = q; words = lent_words (get_or k.owners q Away) } = same_loan _ _ e in
-    sent_long k p (values (lent_words (get_or k.owners q Away)) (copy_in k q)) (set k.owners q Away)
-    ∙ (values_long (lent_words (get_or k.owners q Away)) (copy_in k q) ∙ ap (λ (l : Loan). l.words) (sym same))
+    ap (λ (l : Loan). with_sent k p (values l.words (copy_in k l.page)) (set k.owners q Away)) (sym same)
 
-ask_long : (k : Kept) (p : List ℕ) (at : Option Loan) (o : Option Part) → loans o ≡ at → length (last_words (lends_out k p at).sent) ≡ part_len o
-ask_long k p None None e = sent_long k p [] k.owners
-ask_long k p None (Some a) e = absurd (cc)
-ask_long k p (Some l) None e = absurd (cc)
-ask_long k p (Some l) (Some a) e =
+ask_into : (k : Kept) (p : List ℕ) (at : Option Loan) (o : Option Part) → loans o ≡ at → lends_out k p at ≡ with_sent k p (part_words k.copy o) (lends_out k p at).owners
+ask_into k p None None e = refl
+ask_into k p None (Some a) e = absurd (cc)
+ask_into k p (Some l) None e = absurd (cc)
+ask_into k p (Some l) (Some a) e =
     let same : loan_of a ≡ l = same_loan _ _ e in
-    sent_long k p (values l.words (copy_in k l.page)) (set k.owners l.page (Lent (id_of p) l.words))
-    ∙ (values_long l.words (copy_in k l.page) ∙ ap (λ (x : Loan). x.words) (sym same))
+    ap (λ (x : Loan). with_sent k p (values x.words (copy_in k x.page)) (set k.owners l.page (Lent (id_of p) l.words))) (sym same)
 
 no_test : (n : ℕ) → n ≢ 0 → (n == 0) ≡ false
 no_test n h = grind (arith, nat_tests, h)
 
+pub sent_into : (k : Kept) (p : List ℕ) (o : Option Part) → length k.owners ≡ k.count → k.count ≢ 0 → loans o ≡ part_in k.owners p
+    → pages_sent (layout k.count) k p ≡ with_sent k p (part_words k.copy o) (pages_sent (layout k.count) k p).owners
+sent_into k p o long some e =
+    let back : Kept = gives_back k p (first_page (is_held (id_of p)) 0 k.owners) in
+    let ask : Kept = lends_out k p ((layout k.count).lends p) in
+    let is : pages_sent (layout k.count) k p ≡ cond (kind_of p == 11) back ask = other_of (k.count == 0) k _ (no_test k.count some) in
+    by_test (kind_of p == 11)
+    (λ t. subst (λ (j : Kept). j ≡ with_sent k p (part_words k.copy o) j.owners) (sym (is ∙ first_of (kind_of p == 11) back ask t))
+    (back_into k p (first_page (is_held (id_of p)) 0 k.owners) o (e ∙ first_of (kind_of p == 11) _ _ t)))
+    (λ f. subst (λ (j : Kept). j ≡ with_sent k p (part_words k.copy o) j.owners) (sym (is ∙ other_of (kind_of p == 11) back ask f))
+    (ask_into k p ((layout k.count).lends p) o (e ∙ (other_of (kind_of p == 11) _ _ f ∙ ap (λ (c : ℕ). (layout c).lends p) long))))
+
+sent_words : (k : Kept) (p : List ℕ) (o : Option Part) → length k.owners ≡ k.count → k.count ≢ 0 → loans o ≡ part_in k.owners p → last_words (pages_sent (layout k.count) k p).sent ≡ part_words k.copy o
+sent_words k p o long some e = ap (λ (j : Kept). last_words j.sent) (sent_into k p o long some e) ∙ last_more k.sent (item_of p (part_words k.copy o))
+
 pub along_part : (k : Kept) (p : List ℕ) (o : Option Part) → length k.owners ≡ k.count → k.count ≢ 0 → loans o ≡ part_in k.owners p → along k p ≡ part_len o
-along_part k p o long some e =
-    other_of (k.count == 0) 0 _ (no_test k.count some)
-    ∙ (ap (λ (j : Kept). length (last_words j.sent)) (other_of (k.count == 0) k _ (no_test k.count some))
-    ∙ by_test (kind_of p == 11)
-    (λ t.
-    ap (λ (j : Kept). length (last_words j.sent)) (first_of (kind_of p == 11) (gives_back k p (first_page (is_held (id_of p)) 0 k.owners)) (lends_out k p ((layout k.count).lends p)) t)
-    ∙ back_long k p (first_page (is_held (id_of p)) 0 k.owners) o (e ∙ first_of (kind_of p == 11) _ _ t))
-    (λ f.
-    ap (λ (j : Kept). length (last_words j.sent)) (other_of (kind_of p == 11) (gives_back k p (first_page (is_held (id_of p)) 0 k.owners)) (lends_out k p ((layout k.count).lends p)) f)
-    ∙ ask_long k p ((layout k.count).lends p) o (e ∙ (other_of (kind_of p == 11) _ _ f ∙ ap (λ (c : ℕ). (layout c).lends p) long))))
+along_part k p o long some e = other_of (k.count == 0) 0 _ (no_test k.count some) ∙ (ap length (sent_words k p o long some e) ∙ part_long k.copy o)
+
+-- the part of a page of the channel is inside
+pub part_inside : (o : Option Part) (os : List Owner) (c : ℕ) → length os ≡ c → IfSome o (λ a. IsPart os a) → (a : Part) → o ≡ Some a → (a.page < c) × (a.words ≤ 512)
+part_inside o os c long is a e = (let z : IsPart os a = subst (λ (x : Option Part). IfSome x (λ b. IsPart os b)) e is in (omega (arith, z.0, long), z.2))
 
 pub along_any : (k : Kept) (p : List ℕ) (o : Option Part) → length k.owners ≡ k.count → loans o ≡ part_in k.owners p → IfSome o (λ a. IsPart k.owners a) → along k p ≡ part_len o
 along_any k p o long e is =
@@ -189,37 +200,10 @@ take_values (suc n) m f h =
     let long = values_long (suc n) f in
     ap (λ (j : ℕ). take j (values (suc n) f)) (all ∙ sym long) ∙ (take-length (values (suc n) f) ∙ ap (λ (j : ℕ). values j f) (sym all)))
 
--- the words that go along with a packet
-abbrev part_values : Kept → Option Part → List ℕ
-part_values k None = []
-part_values k (Some a) = values a.words (copy_in k a.page)
-
-back_words : (k : Kept) (p : List ℕ) (at : Option ℕ) (o : Option Part) → loans o ≡ held_part k.owners at → last_words (gives_back k p at).sent ≡ part_values k o
-back_words k p None None e = last_more k.sent (item_of p [])
-back_words k p None (Some a) e = absurd (cc)
-back_words k p (Some q) None e = absurd (cc)
-back_words k p (Some q) (Some a) e =
-    let same : loan_of a ≡ record { page = q; words = lent_words (get_or k.owners q Away) } = same_loan _ _ e in
-    last_more k.sent (item_of p (values (lent_words (get_or k.owners q Away)) (copy_in k q))) ∙ ap (λ (l : Loan). values l.words (copy_in k l.page)) (sym same)
-
-ask_words : (k : Kept) (p : List ℕ) (at : Option Loan) (o : Option Part) → loans o ≡ at → last_words (lends_out k p at).sent ≡ part_values k o
-ask_words k p None None e = last_more k.sent (item_of p [])
-ask_words k p None (Some a) e = absurd (cc)
-ask_words k p (Some l) None e = absurd (cc)
-ask_words k p (Some l) (Some a) e =
-    let same : loan_of a ≡ l = same_loan _ _ e in
-    last_more k.sent (item_of p (values l.words (copy_in k l.page))) ∙ ap (λ (x : Loan). values x.words (copy_in k x.page)) (sym same)
-
-sent_words : (k : Kept) (p : List ℕ) (o : Option Part) → length k.owners ≡ k.count → k.count ≢ 0 → loans o ≡ part_in k.owners p → last_words (pages_sent (layout k.count) k p).sent ≡ part_values k o
-sent_words k p o long some e =
-    ap (λ (j : Kept). last_words j.sent) (other_of (k.count == 0) k _ (no_test k.count some))
-    ∙ by_test (kind_of p == 11)
-    (λ t.
-    ap (λ (j : Kept). last_words j.sent) (first_of (kind_of p == 11) (gives_back k p (first_page (is_held (id_of p)) 0 k.owners)) (lends_out k p ((layout k.count).lends p)) t)
-    ∙ back_words k p (first_page (is_held (id_of p)) 0 k.owners) o (e ∙ first_of (kind_of p == 11) _ _ t))
-    (λ f.
-    ap (λ (j : Kept). last_words j.sent) (other_of (kind_of p == 11) (gives_back k p (first_page (is_held (id_of p)) 0 k.owners)) (lends_out k p ((layout k.count).lends p)) f)
-    ∙ ask_words k p ((layout k.count).lends p) o (e ∙ (other_of (kind_of p == 11) _ _ f ∙ ap (λ (c : ℕ). (layout c).lends p) long)))
+-- the copy alone changes by what is laid
+pub laid_is : (k : Kept) (at : Option Loan) (words : List ℕ) → laid_at k at words ≡ record { count = k.count; sent = k.sent; got = k.got; owners = k.owners; copy = (laid_at k at words).copy; due = k.due; call = k.call }
+laid_is k None words = refl
+laid_is k (Some a) words = stored_is k a.page 0 words
 
 no_words : (xs : List ℕ) → length xs ≤ 0 → xs ≡ []
 no_words [] h = refl
@@ -228,20 +212,16 @@ no_words (x ∷ xs) h = absurd (omega (arith, h))
 -- An end, and the words that it lays for a packet: the packet may be sent as before, as many words go along, and these stand first
 module _ (s : EndState) (p words : List ℕ) (o : Option Part) (long : length s.pages.owners ≡ s.pages.count) (part : loans o ≡ part_in s.pages.owners p) (is : IfSome o (λ a. IsPart s.pages.owners a))
     (copied : length s.pages.copy ≡ 512 * length s.pages.owners) (fits : length words ≤ along s.pages p) where
-  at_is : (o : Option Part) → laid_at s.pages (loans o) words ≡ record { count = s.pages.count; sent = s.pages.sent; got = s.pages.got; owners = s.pages.owners; copy = (laid_at s.pages (loans o) words).copy; due = s.pages.due; call = s.pages.call }
-  at_is None = refl
-  at_is (Some a) = stored_is s.pages a.page 0 words
-
   pub lends_on : MayLend s p → MayLend (with_pages s (laid_at s.pages (loans o) words)) p
-  lends_on may = subst (λ (k : Kept). MayLend (with_pages s k) p) (sym (at_is o)) (λ some. (let m = may some in record { clear = m.clear; has = m.has; settled = m.settled; answers = m.answers }))
+  lends_on may = subst (λ (k : Kept). MayLend (with_pages s k) p) (sym (laid_is s.pages (loans o) words)) (λ some. (let m = may some in record { clear = m.clear; has = m.has; settled = m.settled; answers = m.answers }))
 
   pub along_on : along (laid_at s.pages (loans o) words) p ≡ along s.pages p
   along_on =
-      ap (λ (k : Kept). along k p) (at_is o)
+      ap (λ (k : Kept). along k p) (laid_is s.pages (loans o) words)
       ∙ (along_any (record { count = s.pages.count; sent = s.pages.sent; got = s.pages.got; owners = s.pages.owners; copy = (laid_at s.pages (loans o) words).copy; due = s.pages.due; call = s.pages.call }) p o long part is
       ∙ sym (along_any s.pages p o long part is))
 
-  words_at : (o : Option Part) → IfSome o (λ a. IsPart s.pages.owners a) → length words ≤ part_len o → take (length words) (part_values (laid_at s.pages (loans o) words) o) ≡ words
+  words_at : (o : Option Part) → IfSome o (λ a. IsPart s.pages.owners a) → length words ≤ part_len o → take (length words) (part_words (laid_at s.pages (loans o) words).copy o) ≡ words
   words_at None is few = ap (λ (xs : List ℕ). take (length xs) []) (no_words words few) ∙ sym (no_words words few)
   words_at (Some a) is few =
       take_values a.words (length words) _ few ∙ stored_words s.pages a.page words (omega (arith, few, is.2)) (omega (arith, copied, is.0))
@@ -249,6 +229,6 @@ module _ (s : EndState) (p words : List ℕ) (o : Option Part) (long : length s.
   pub words_on : (laid_at s.pages (loans o) words).count ≢ 0 → take (length words) (last_words (pages_sent (layout (laid_at s.pages (loans o) words).count) (laid_at s.pages (loans o) words) p).sent) ≡ words
   words_on some =
       let k : Kept = record { count = s.pages.count; sent = s.pages.sent; got = s.pages.got; owners = s.pages.owners; copy = (laid_at s.pages (loans o) words).copy; due = s.pages.due; call = s.pages.call } in
-      ap (λ (j : Kept). take (length words) (last_words (pages_sent (layout j.count) j p).sent)) (at_is o)
-      ∙ (ap (take (length words)) (sent_words k p o long (λ e. some (ap (λ (j : Kept). j.count) (at_is o) ∙ e)) part ∙ ap (λ (j : Kept). part_values j o) (sym (at_is o)))
+      ap (λ (j : Kept). take (length words) (last_words (pages_sent (layout j.count) j p).sent)) (laid_is s.pages (loans o) words)
+      ∙ (ap (take (length words)) (sent_words k p o long (λ e. some (ap (λ (j : Kept). j.count) (laid_is s.pages (loans o) words) ∙ e)) part)
       ∙ words_at o is (let e = along_any s.pages p o long part is in omega (arith, e, fits)))

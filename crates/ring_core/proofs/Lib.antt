@@ -10,3 +10,6 @@ pub mod Lendable
 pub mod Laying
 pub mod Goings
 pub mod Stores
+pub mod Calls
+pub mod Listing
+pub mod ListLaws

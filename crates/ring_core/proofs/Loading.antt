@@ -20,10 +20,9 @@ use Rattle.ring_machine.specs.declared.state.EndState.{EndState}
 use Rattle.ring_machine.specs.PageCalls.{ContinuesPage, after_page, is_paging, lent_load_begun, newest, page_op, page_store_begun, paged, pages_fed, with_pages}
 use Rattle.ring_machine.specs.States.{resting_with}
 use Rattle.ring_core.specs.declared.told.Told.{Told}
-use Rattle.ring_core.specs.Seen.{Listed}
-use Rattle.ring_core.specs.Pages.{items_of, kept_of, resting_in}
+use Rattle.ring_core.specs.Pages.{Paged, items_of, kept_of, resting_in}
 use Rattle.ring_core.proofs.Paging.{newest_tail}
-use Rattle.ring_core.specs.Told.{Memory, pair, answer_of, memory_after, told_page}
+use Rattle.ring_core.specs.Told.{HeardJust, Memory, pair, answer_of, memory_after, told_page, Tale}
 use Rattle.ring_core.specs.PageRuns.{page_afters, page_step, page_step_by, page_run, steps_in, told_paged, RanPages}
 
 -- what is told while a page call is under way: it begins with its first step
@@ -37,21 +36,22 @@ only_pages s c [] = refl
 only_pages s c (v ∷ vs) = ap (λ (x : EndState). with_pages x (page_afters s c (v ∷ vs)).pages) (only_pages s c vs)
 
 -- the page call c, that began at the state s, has made j steps, and is the call d now
-pub record Paging (s : EndState) (c d : PageCall) (told told' : Option Told) (memory memory' : Option Memory) (j : ℕ) : Type 0 where
+pub record Paging (s : EndState) (c d : PageCall) (told told' : Option Told) (tale tale' : Tale) (j : ℕ) : Type 0 where
   pub values : List ℕ
   pub each : length values ≡ j
   pub call : (page_afters s c values).pages.call ≡ d
   pub silent : told ≡ None → told' ≡ None
   pub tells : (u : Told) → told ≡ Some u → told' ≡ Some (told_paged (length values) (held_at s c values) u)
-  pub runs : (m : Memory) → memory ≡ Some m → (m' : Memory) × (memory' ≡ Some m') × (page_run (length values) (pair (paged s c) m) ≡ pair (page_afters s c values) m')
+  pub runs : (m : Memory) → tale.memory ≡ Some m → (m' : Memory) × (tale'.memory ≡ Some m') × (page_run (length values) (pair (paged s c) m) ≡ pair (page_afters s c values) m')
+  pub hears : HeardJust tale tale' values
 
 -- the call that is told of is under way, at its first step too
 held_paged : (s : EndState) (c d : PageCall) (vs : List ℕ) → (page_afters s c vs).pages.call ≡ d → paged (held_at s c vs) d ≡ page_afters s c vs
 held_paged s c d [] e = ap (paged s) (sym e)
 held_paged s c d (v ∷ vs) e = ap (paged (page_afters s c (v ∷ vs))) (sym e)
 
-pub paging_first : (s : EndState) (c d : PageCall) (told : Option Told) (memory : Option Memory) → c ≡ d → ((u : Told) → told ≡ Some u → u.state ≡ s) → Paging s c d told told memory memory 0
-paging_first s c d told memory is at = record {
+pub paging_first : (s : EndState) (c d : PageCall) (told : Option Told) (tale : Tale) → c ≡ d → ((u : Told) → told ≡ Some u → u.state ≡ s) → Paging s c d told told tale tale 0
+paging_first s c d told tale is at = record {
   values = [];
   each = refl;
   call = is;
@@ -60,20 +60,22 @@ paging_first s c d told memory is at = record {
       let steps : u.steps ≡ u.steps + 0 = omega arith in
       e ∙ (λ i. Some (record { state = at u e i; steps = steps i; raised = u.raised; woke = u.woke }));
   runs = λ m e. (m, e, refl);
+  hears = λ vs e. e;
 }
 
-module _ (s : EndState) (c d : PageCall) (told told' told'' : Option Told) (memory memory' memory'' : Option Memory) (j v : ℕ) (op : Op) (it : Paging s c d told told' memory memory' j)
+module _ (s : EndState) (c d : PageCall) (told told' told'' : Option Told) (tale tale' tale'' : Tale) (j v : ℕ) (op : Op) (it : Paging s c d told told' tale tale' j)
     (named : page_op d ≡ Some op)
     (quiet : told' ≡ None → told'' ≡ None)
     (tells : (u : Told) → told' ≡ Some u → told'' ≡ Some (told_page u d v))
-    (runs : (m : Memory) → memory' ≡ Some m → (memory'' ≡ Some (memory_after s.machine.cells op m)) × (v ≡ answer_of s.machine.cells op m)) where
+    (runs : (m : Memory) → tale'.memory ≡ Some m → (tale''.memory ≡ Some (memory_after s.machine.cells op m)) × (v ≡ answer_of s.machine.cells op m))
+    (hears : HeardJust tale' tale'' (v ∷ [])) where
   told_on : (u : Told) → told ≡ Some u → told'' ≡ Some (told_paged (length (v ∷ it.values)) (page_afters s c (v ∷ it.values)) u)
   told_on u e =
       let steps : (u.steps + length it.values) + 1 ≡ u.steps + length (v ∷ it.values) = omega arith in
       tells (told_paged (length it.values) (held_at s c it.values) u) (it.tells u e)
       ∙ (λ i. Some (record { state = after_page (held_paged s c d it.values it.call i) v; steps = steps i; raised = u.raised; woke = u.woke }))
 
-  run_on : (m : Memory) → memory ≡ Some m → (m' : Memory) × (memory'' ≡ Some m') × (page_run (length (v ∷ it.values)) (pair (paged s c) m) ≡ pair (page_afters s c (v ∷ it.values)) m')
+  run_on : (m : Memory) → tale.memory ≡ Some m → (m' : Memory) × (tale''.memory ≡ Some m') × (page_run (length (v ∷ it.values)) (pair (paged s c) m) ≡ pair (page_afters s c (v ∷ it.values)) m')
   run_on m e =
       let r = it.runs m e in
       let t = runs r.0 r.1 in
@@ -88,7 +90,7 @@ module _ (s : EndState) (c d : PageCall) (told told' told'' : Option Told) (memo
             ∙ ap (λ (w : ℕ). pair (after_page now w) (memory_after s.machine.cells op r.0)) (sym t.1))),
       )
 
-  pub paging_on : (d' : PageCall) (j' : ℕ) → j' ≡ suc j → (page_afters s c (v ∷ it.values)).pages.call ≡ d' → Paging s c d' told told'' memory memory'' j'
+  pub paging_on : (d' : PageCall) (j' : ℕ) → j' ≡ suc j → (page_afters s c (v ∷ it.values)).pages.call ≡ d' → Paging s c d' told told'' tale tale'' j'
   paging_on d' j' is e = record {
     values = v ∷ it.values;
     each = ap suc it.each ∙ sym is;
@@ -96,13 +98,14 @@ module _ (s : EndState) (c d : PageCall) (told told' told'' : Option Told) (memo
     silent = λ h. quiet (it.silent h);
     tells = told_on;
     runs = run_on;
+    hears = λ vs e. hears (it.values ++ vs) (it.hears vs e);
   }
 
 -- what the seat asks at the next step of a page call: it goes on, or begins at its first step
-pub paging_asks : (s : EndState) (c d : PageCall) (told told' : Option Told) (memory memory' : Option Memory) (j : ℕ) → Paging s c d told told' memory memory' j → ContinuesPage s c
+pub paging_asks : (s : EndState) (c d : PageCall) (told told' : Option Told) (tale tale' : Tale) (j : ℕ) → Paging s c d told told' tale tale' j → ContinuesPage s c
     → (u : Told) → told' ≡ Some u → ContinuesPage u.state d
-paging_asks s c d None told' memory memory' j it may u e = absurd (let z : None ≡ Some u = sym (it.silent refl) ∙ e in cc)
-paging_asks s c d (Some t) told' memory memory' j it may u e =
+paging_asks s c d None told' tale tale' j it may u e = absurd (let z : None ≡ Some u = sym (it.silent refl) ∙ e in cc)
+paging_asks s c d (Some t) told' tale tale' j it may u e =
     let same : told_paged (length it.values) (held_at s c it.values) t ≡ u = (let z : Some (told_paged (length it.values) (held_at s c it.values) t) ≡ Some u = sym (it.tells t refl) ∙ e in cc) in
     subst (λ (x : Told). ContinuesPage x.state d) same (by_values it.values it.call)
   where
@@ -110,20 +113,28 @@ paging_asks s c d (Some t) told' memory memory' j it may u e =
     by_values [] e = subst (λ (x : PageCall). ContinuesPage s x) e may
     by_values (v ∷ vs) e = inl (sym e)
 
-pub ran_pages : (s t : EndState) (c d : PageCall) (told told' : Option Told) (memory memory' : Option Memory) (j : ℕ) (it : Paging s c d told told' memory memory' j) → 0 < j → j ≡ steps_in c → t ≡ page_afters s c it.values
-    → RanPages s t c told told' memory memory'
-ran_pages s t c d told told' memory memory' j it some long e = record {
+pub ran_pages : (s t : EndState) (c d : PageCall) (told told' : Option Told) (tale tale' : Tale) (j : ℕ) (it : Paging s c d told told' tale tale' j) → 0 < j → j ≡ steps_in c → t ≡ page_afters s c it.values
+    → RanPages s t c told told' tale tale'
+ran_pages s t c d told told' tale tale' j it some long e = record {
   values = it.values;
   state = e;
   each = it.each ∙ long;
   silent = it.silent;
   tells = λ u h. it.tells u h ∙ ap (λ (x : EndState). Some (told_paged (length it.values) x u)) (ended it.values (omega (arith, some, it.each)) ∙ sym e);
   runs = λ m h. let r = it.runs m h in (r.0, r.1, r.2 ∙ ap (λ (x : EndState). pair x r.0) (sym e));
+  hears = it.hears;
 }
   where
     ended : (vs : List ℕ) → 0 < length vs → held_at s c vs ≡ page_afters s c vs
     ended [] h = absurd (omega (arith, h))
     ended (v ∷ vs) h = refl
+
+-- what the seat tells is where the page call ended
+pub pages_told : (s t : EndState) (c : PageCall) (told told' : Option Told) (tale tale' : Tale) → RanPages s t c told told' tale tale' → (u : Told) → told' ≡ Some u → u.state ≡ t
+pages_told s t c None told' tale tale' it u e = absurd (let z : None ≡ Some u = sym (it.silent refl) ∙ e in cc)
+pages_told s t c (Some a) told' tale tale' it u e =
+    let same : told_paged (length it.values) t a ≡ u = (let z : Some (told_paged (length it.values) t a) ≡ Some u = sym (it.tells a refl) ∙ e in cc) in
+    ap (λ (x : Told). x.state) (sym same)
 
 pub first_of : {A : Type 0} (b : Bool) (x y : A) → b ≡ true → cond b x y ≡ x
 first_of true x y h = refl
@@ -149,7 +160,18 @@ items_last (p ∷ q ∷ ps) (v ∷ vs) w e =
     ap (λ (is : List Item). item_of p v ∷ is) (items_last (q ∷ ps) vs w (omega (arith, e)))
     ∙ ap (λ (x : List ℕ). item_of p v ∷ (items_of (q ∷ ps) vs ++ item_of x w ∷ [])) (sym (newest_tail p q ps))
 
-module _ (k : PageCore) (sent got : Listed) (t : Table) (q n : ℕ) where
+-- the page call of a load of n words of page q that has made j steps, and what the machine knows of the pages
+abbrev pub loads_at : ℕ → ℕ → ℕ → PageCall
+loads_at q n j = cond (ltb j n) (LoadWords q n j) Off
+
+abbrev pub core_at : PageCore → ℕ → ℕ → ℕ → PageCore
+core_at k q n j = record { count = k.count; call = loads_at q n j; due = Clear }
+
+-- with the last word the call ends
+pub loaded_off : (q n : ℕ) → loads_at q n n ≡ Off
+loaded_off q n = other_of (ltb n n) (LoadWords q n n) Off (past_all n)
+
+module _ (k : PageCore) (sent got : Paged) (t : Table) (q n : ℕ) where
   -- the pages of an end that has loaded some of the words that are due, and of one that has loaded all of them, where its copy is this
   abbrev pub some_in : ℕ → List ℕ → Kept
   some_in j copy = record { count = k.count; sent = items_of sent.list sent.lent; got = items_of got.list got.lent; owners = t.owners; copy = copy; due = Loads q n j; call = LoadWords q n j }
@@ -161,11 +183,10 @@ module _ (k : PageCore) (sent got : Listed) (t : Table) (q n : ℕ) where
   kept_in j copy = cond (ltb j n) (some_in j copy) (all_in copy)
 
   abbrev pub call_in : ℕ → PageCall
-  call_in j = cond (ltb j n) (LoadWords q n j) Off
+  call_in j = loads_at q n j
 
-  -- and what its machine knows of them
   abbrev pub core_in : ℕ → PageCore
-  core_in j = record { count = k.count; call = call_in j; due = Clear }
+  core_in j = core_at k q n j
 
   kept_calls : (b : Bool) (j : ℕ) (copy : List ℕ) → (cond b (some_in j copy) (all_in copy)).call ≡ cond b (LoadWords q n j) Off
   kept_calls true j copy = refl
@@ -214,7 +235,7 @@ module _ (k : PageCore) (sent got : Listed) (t : Table) (q n : ℕ) where
       ∙ sym (ap (λ (c : PageCall). record { count = k.count; call = c; due = Clear }) (first_of (ltb 0 n) (LoadWords q n 0) Off (less 0 n some)))
 
   -- all words are loaded, and kept with the packet
-  pub kept_all : (got' : Listed) (t' : Table) (k' : PageCore) → length got.list ≡ length got.lent + 1 → k' ≡ core_in n → t'.owners ≡ t.owners → got'.list ≡ got.list → got'.lent ≡ got.lent ++ values n (word_of t'.copy q) ∷ []
+  pub kept_all : (got' : Paged) (t' : Table) (k' : PageCore) → length got.list ≡ length got.lent + 1 → k' ≡ core_in n → t'.owners ≡ t.owners → got'.list ≡ got.list → got'.lent ≡ got.lent ++ values n (word_of t'.copy q) ∷ []
       → kept_of k' sent got' t' ≡ kept_in n t'.copy
   kept_all got' t' k' long core owners list lent =
       let off : core_in n ≡ record { count = k.count; call = Off; due = Clear } = ap (λ (c : PageCall). record { count = k.count; call = c; due = Clear }) (other_of (ltb n n) (LoadWords q n n) Off (past_all n)) in
@@ -225,59 +246,59 @@ module _ (k : PageCore) (sent got : Listed) (t : Table) (q n : ℕ) where
       ∙ sym (other_of (ltb n n) (some_in n t'.copy) (all_in t'.copy) (past_all n))
 
 -- an end that loads n words of page q has made j steps, and its copy is this
-pub record LoadedSome (s : EndState) (k : PageCore) (sent got : Listed) (t : Table) (q n j : ℕ) (copy : List ℕ) (told told' : Option Told) (memory memory' : Option Memory) : Type 0 where
-  pub paging : Paging s (LoadWords q n 0) (call_in k sent got t q n j) told told' memory memory' j
+pub record LoadedSome (s : EndState) (k : PageCore) (sent got : Paged) (t : Table) (q n j : ℕ) (copy : List ℕ) (told told' : Option Told) (tale tale' : Tale) : Type 0 where
+  pub paging : Paging s (LoadWords q n 0) (call_in k sent got t q n j) told told' tale tale' j
   pub kept : (page_afters s (LoadWords q n 0) paging.values).pages ≡ kept_in k sent got t q n j copy
 
-module _ (m : EndMachine) (k : PageCore) (sent got : Listed) (past : List (Event (List ℕ))) (t : Table) (q n : ℕ) where
+module _ (m : EndMachine) (k : PageCore) (sent got : Paged) (past : List (Event (List ℕ))) (t : Table) (q n : ℕ) where
   abbrev base : EndState
   base = resting_in m k sent got past t
 
-  pub some_first : (told : Option Told) (memory : Option Memory) → 0 < n → k.due ≡ Loads q n 0 → ((u : Told) → told ≡ Some u → u.state ≡ base) → LoadedSome base k sent got t q n 0 t.copy told told memory memory
+  pub some_first : (told : Option Told) (tale : Tale) → 0 < n → k.due ≡ Loads q n 0 → ((u : Told) → told ≡ Some u → u.state ≡ base) → LoadedSome base k sent got t q n 0 t.copy told told tale tale
   unfolding paging_first
-  some_first told memory some due at = record {
-    paging = paging_first base (LoadWords q n 0) (call_in k sent got t q n 0) told memory (sym (first_of (ltb 0 n) (LoadWords q n 0) Off (less 0 n some))) at;
+  some_first told tale some due at = record {
+    paging = paging_first base (LoadWords q n 0) (call_in k sent got t q n 0) told tale (sym (first_of (ltb 0 n) (LoadWords q n 0) Off (less 0 n some))) at;
     kept = kept_first k sent got t q n some due;
   }
 
-  pub some_more : (j v : ℕ) (copy : List ℕ) (told told' told'' : Option Told) (memory memory' memory'' : Option Memory) → LoadedSome base k sent got t q n j copy told told' memory memory' → j < n
+  pub some_more : (j v : ℕ) (copy : List ℕ) (told told' told'' : Option Told) (tale tale' tale'' : Tale) → LoadedSome base k sent got t q n j copy told told' tale tale' → j < n
       → (told' ≡ None → told'' ≡ None)
       → ((u : Told) → told' ≡ Some u → told'' ≡ Some (told_page u (call_in k sent got t q n j) v))
-      → ((x : Memory) (op : Op) → memory' ≡ Some x → page_op (call_in k sent got t q n j) ≡ Some op → (memory'' ≡ Some (memory_after m.cells op x)) × (v ≡ answer_of m.cells op x))
-      → LoadedSome base k sent got t q n (j + 1) (slice_set copy (512 * q + j) v) told told'' memory memory''
+      → ((x : Memory) (op : Op) → tale'.memory ≡ Some x → page_op (call_in k sent got t q n j) ≡ Some op → (tale''.memory ≡ Some (memory_after m.cells op x)) × (v ≡ answer_of m.cells op x))
+      → HeardJust tale' tale'' (v ∷ []) → LoadedSome base k sent got t q n (j + 1) (slice_set copy (512 * q + j) v) told told'' tale tale''
   unfolding paging_on
-  some_more j v copy told told' told'' memory memory' memory'' it h quiet tells runs =
+  some_more j v copy told told' told'' tale tale' tale'' it h quiet tells runs hears =
       let named = load_named k sent got t q n j h in
       let kept = kept_more k sent got t q n base (LoadWords q n 0) it.paging.values j v copy h refl it.kept in
       record {
-        paging = paging_on base (LoadWords q n 0) (call_in k sent got t q n j) told told' told'' memory memory' memory'' j v (Load (Page q j)) it.paging named quiet tells (λ x e. runs x (Load (Page q j)) e named) (call_in k sent got t q n (j + 1)) (j + 1)
+        paging = paging_on base (LoadWords q n 0) (call_in k sent got t q n j) told told' told'' tale tale' tale'' j v (Load (Page q j)) it.paging named quiet tells (λ x e. runs x (Load (Page q j)) e named) hears (call_in k sent got t q n (j + 1)) (j + 1)
             (omega arith) (ap (λ (x : Kept). x.call) kept ∙ call_is k sent got t q n (j + 1) (slice_set copy (512 * q + j) v));
         kept = kept;
       }
 
   -- all words are loaded, and kept with the packet that was taken last
-  pub some_all : (told told' : Option Told) (memory memory' : Option Memory) (got' : Listed) (t' : Table) (m' : EndMachine) (k' : PageCore) (sent' : Listed) (past' : List (Event (List ℕ))) → LoadedSome base k sent got t q n n t'.copy told told' memory memory' → 0 < n
+  pub some_all : (told told' : Option Told) (tale tale' : Tale) (got' : Paged) (t' : Table) (m' : EndMachine) (k' : PageCore) (sent' : Paged) (past' : List (Event (List ℕ))) → LoadedSome base k sent got t q n n t'.copy told told' tale tale' → 0 < n
       → length got.list ≡ length got.lent + 1 → m' ≡ m → sent' ≡ sent → past' ≡ past → k' ≡ core_in k sent got t q n n → t'.owners ≡ t.owners → got'.list ≡ got.list → got'.lent ≡ got.lent ++ values n (word_of t'.copy q) ∷ []
-      → RanPages base (resting_in m' k' sent' got' past' t') (LoadWords q n 0) told told' memory memory'
-  some_all told told' memory memory' got' t' m' k' sent' past' it some long machine sents pasts core owners list lent =
+      → RanPages base (resting_in m' k' sent' got' past' t') (LoadWords q n 0) told told' tale tale'
+  some_all told told' tale tale' got' t' m' k' sent' past' it some long machine sents pasts core owners list lent =
       let vs = it.paging.values in
       let pages : kept_of k' sent' got' t' ≡ (page_afters base (LoadWords q n 0) vs).pages =
-      ap (λ (l : Listed). kept_of k' l got' t') sents ∙ (kept_all k sent got t q n got' t' k' long core owners list lent ∙ sym it.kept) in
+      ap (λ (l : Paged). kept_of k' l got' t') sents ∙ (kept_all k sent got t q n got' t' k' long core owners list lent ∙ sym it.kept) in
       let is : resting_in m' k' sent' got' past' t' ≡ page_afters base (LoadWords q n 0) vs =
-      (λ i. resting_with (machine i) (ap (λ (l : Listed). l.list) sents i) (list i) (pasts i) (pages i)) ∙ sym (only_pages base (LoadWords q n 0) vs) in
-      ran_pages base (resting_in m' k' sent' got' past' t') (LoadWords q n 0) (call_in k sent got t q n n) told told' memory memory' n it.paging some (omega arith) is
+      (λ i. resting_with (machine i) (ap (λ (l : Paged). l.list) sents i) (list i) (pasts i) (pages i)) ∙ sym (only_pages base (LoadWords q n 0) vs) in
+      ran_pages base (resting_in m' k' sent' got' past' t') (LoadWords q n 0) (call_in k sent got t q n n) told told' tale tale' n it.paging some (omega arith) is
 
   -- a word was stored
-  pub stored_one : (w x v : ℕ) (told told' : Option Told) (memory memory' : Option Memory) (t' : Table) (m' : EndMachine) (k' : PageCore) (sent' got' : Listed) (past' : List (Event (List ℕ))) → ((u : Told) → told ≡ Some u → u.state ≡ base)
+  pub stored_one : (w x v : ℕ) (told told' : Option Told) (tale tale' : Tale) (t' : Table) (m' : EndMachine) (k' : PageCore) (sent' got' : Paged) (past' : List (Event (List ℕ))) → ((u : Told) → told ≡ Some u → u.state ≡ base)
       → (told ≡ None → told' ≡ None)
       → ((u : Told) → told ≡ Some u → told' ≡ Some (told_page u (StoreWord q w x) v))
-      → ((y : Memory) (op : Op) → memory ≡ Some y → page_op (StoreWord q w x) ≡ Some op → (memory' ≡ Some (memory_after m.cells op y)) × (v ≡ answer_of m.cells op y))
-      → m' ≡ m → sent' ≡ sent → got' ≡ got → past' ≡ past → k' ≡ pages_fed (page_store_begun k q w x) → t'.owners ≡ t.owners → t'.copy ≡ slice_set t.copy (512 * q + w) x
-      → RanPages base (resting_in m' k' sent' got' past' t') (StoreWord q w x) told told' memory memory'
+      → ((y : Memory) (op : Op) → tale.memory ≡ Some y → page_op (StoreWord q w x) ≡ Some op → (tale'.memory ≡ Some (memory_after m.cells op y)) × (v ≡ answer_of m.cells op y))
+      → HeardJust tale tale' (v ∷ []) → m' ≡ m → sent' ≡ sent → got' ≡ got → past' ≡ past → k' ≡ pages_fed (page_store_begun k q w x) → t'.owners ≡ t.owners → t'.copy ≡ slice_set t.copy (512 * q + w) x
+      → RanPages base (resting_in m' k' sent' got' past' t') (StoreWord q w x) told told' tale tale'
   unfolding paging_first paging_on
-  stored_one w x v told told' memory memory' t' m' k' sent' got' past' at quiet tells runs machine sents gots pasts core owners copy =
-      let it = paging_on base (StoreWord q w x) (StoreWord q w x) told told told' memory memory memory' 0 v (Store (Page q w) x) (paging_first base (StoreWord q w x) (StoreWord q w x) told memory refl at) refl quiet tells (λ y e. runs y (Store (Page q w) x) e refl) Off 1 (omega arith) refl in
+  stored_one w x v told told' tale tale' t' m' k' sent' got' past' at quiet tells runs hears machine sents gots pasts core owners copy =
+      let it = paging_on base (StoreWord q w x) (StoreWord q w x) told told told' tale tale tale' 0 v (Store (Page q w) x) (paging_first base (StoreWord q w x) (StoreWord q w x) told tale refl at) refl quiet tells (λ y e. runs y (Store (Page q w) x) e refl) hears Off 1 (omega arith) refl in
       let is : resting_in m' k' sent' got' past' t' ≡ page_afters base (StoreWord q w x) (v ∷ []) =
-      (λ i. resting_with (machine i) (ap (λ (l : Listed). l.list) sents i) (ap (λ (l : Listed). l.list) gots i) (pasts i)
+      (λ i. resting_with (machine i) (ap (λ (l : Paged). l.list) sents i) (ap (λ (l : Paged). l.list) gots i) (pasts i)
       (record { count = (core i).count; sent = items_of (sents i).list (sents i).lent; got = items_of (gots i).list (gots i).lent; owners = owners i; copy = copy i; due = (core i).due; call = (core i).call })) in
-      ran_pages base (resting_in m' k' sent' got' past' t') (StoreWord q w x) Off told told' memory memory' 1 it (omega arith) refl is
+      ran_pages base (resting_in m' k' sent' got' past' t') (StoreWord q w x) Off told told' tale tale' 1 it (omega arith) refl is

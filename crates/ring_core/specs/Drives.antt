@@ -1,8 +1,8 @@
 -- The steps of a call, and the call that a driver makes of them.
-use Rattle.std.specs.Prelude.{◌≡◌, ◌≢◌, ℕ, List, length, take, Option, Some, None, true, false}
+use Rattle.std.specs.Prelude.{◌≡◌, ◌≢◌, ℕ, List, length, take, Option, Some, None, true, false, [], ◌∷◌}
 use Rattle.channel_trace.specs.declared.event.Event.{Event}
 use Rattle.page_kept.specs.declared.kept.Kept.{Kept}
-use Rattle.ring_core.specs.Told.{Left, Memory, answer_of, memory_after, told_at, told_next}
+use Rattle.ring_core.specs.Told.{HeardJust, Left, Memory, answer_of, memory_after, told_at, told_next, Tale}
 use Rattle.ring_core.specs.declared.told.Told.{Told}
 use Rattle.ring_machine.specs.EndCalls.{Take}
 use Rattle.ring_machine.specs.Endings.{Leaves}
@@ -24,12 +24,14 @@ pub record CanStep {S : Type 0} (cells_of : S → ℕ) (told : S → Option Told
   pub goes_on : (u : Told) → told seat ≡ Some u → Continues u.state core.machine packet
 
 -- The one step that the machine names was made, and answered v: the machine is fed that, and a word of a packet that was loaded stands in the buffer. Where the
--- seat tells its memory, that made the step; where it tells its end's state, that is told after it, and the end isn't stopped
-pub record StepLeaves {S : Type 0} (cells_of : S → ℕ) (told : S → Option Told) (memory : S → Option Memory) (IsLater : S → S → Type 0) (seat seat' : S) (core core' : EndCore) (buf buf' packet : List ℕ) (v : ℕ) : Type 0 where
+-- seat tells its memory, that made the step; where it tells what it heard, that is v; where it tells its end's state, that is told after it, and the end
+-- isn't stopped
+pub record StepLeaves {S : Type 0} (cells_of : S → ℕ) (told : S → Option Told) (tale : S → Tale) (IsLater : S → S → Type 0) (seat seat' : S) (core core' : EndCore) (buf buf' packet : List ℕ) (v : ℕ) : Type 0 where
   pub machine : core'.machine ≡ fed core.machine v
   pub items : buf' ≡ stored (is_copying_at core.machine.stage) buf core.machine.done v
   pub len : length buf' ≡ length buf
-  pub runs : (m : Memory) (op : Op) → memory seat ≡ Some m → next_of core.machine packet ≡ Some op → (memory seat' ≡ Some (memory_after core.machine.cells op m)) × (v ≡ answer_of core.machine.cells op m)
+  pub runs : (m : Memory) (op : Op) → (tale seat).memory ≡ Some m → next_of core.machine packet ≡ Some op → ((tale seat').memory ≡ Some (memory_after core.machine.cells op m)) × (v ≡ answer_of core.machine.cells op m)
+  pub hears : HeardJust (tale seat) (tale seat') (v ∷ [])
   pub same : IsLater seat seat'
   pub cells : cells_of seat' ≡ cells_of seat
   pub silent : told seat ≡ None → told seat' ≡ None
@@ -54,12 +56,12 @@ pub record CanDrive {S : Type 0} (cells_of : S → ℕ) (told : S → Option Tol
 
 -- The steps of the call were made until it ended: the machine, the memory and what is told are as the steps left them, whatever lists, past and pages the call
 -- began with; and a packet that was taken stands in the buffer, which else is as it was
-pub record DriveLeaves {S : Type 0} (cells_of : S → ℕ) (told : S → Option Told) (memory : S → Option Memory) (IsLater : S → S → Type 0) (seat seat' : S) (core core' : EndCore) (buf buf' packet : List ℕ) : Type 0 where
+pub record DriveLeaves {S : Type 0} (cells_of : S → ℕ) (told : S → Option Told) (tale : S → Tale) (IsLater : S → S → Type 0) (seat seat' : S) (core core' : EndCore) (buf buf' packet : List ℕ) : Type 0 where
   pub call : call_by core'.machine.ended ≡ call_at core.machine.stage
   pub leaves : Leaves core.machine core'.machine
   pub took : is_took core'.machine.ended ≡ true → IsPacket (take core'.machine.len buf')
   pub left : (sent got : List (List ℕ)) (past : List (Event (List ℕ))) (kept : Kept) → BeginsAt told seat core.machine packet (shown core.machine packet buf sent got past kept)
-      → Left (shown core.machine packet buf sent got past kept) (told seat) (told seat') (memory seat) (memory seat') core'.machine
+      → Left (shown core.machine packet buf sent got past kept) (told seat) (told seat') (tale seat) (tale seat') core'.machine
       (sent_by core'.machine sent packet) (got_by core'.machine got buf') (past_by core'.machine past packet buf') (pages_by core'.machine kept packet buf')
   pub pages : core'.pages ≡ core.pages
   pub idle : is_busy_at core'.machine.stage ≡ false

@@ -10,7 +10,7 @@ use Rattle.ring_machine.specs.declared.state.EndState.{EndState}
 use Rattle.ring_machine.specs.PageCalls.{with_pages}
 use Rattle.ring_core.specs.declared.told.Told.{Told}
 use Rattle.ring_core.specs.PageRuns.{told_paged}
-use Rattle.ring_core.specs.Told.{Memory, memory_after}
+use Rattle.ring_core.specs.Told.{HeardJust, Memory, memory_after, Tale}
 
 -- these words were stored, from the word w of page q on
 abbrev pub stored_all : Kept → ℕ → ℕ → List ℕ → Kept
@@ -31,9 +31,12 @@ memory_stored d q w [] m = m
 memory_stored d q w (v ∷ vs) m = memory_stored d q (w + 1) vs (memory_after d (Store (Page q w) v) m)
 
 -- From the state s these words were stored into page q, from its first word on, and t is the state: one step a word. Where the seat tells its memory, each
--- word stands there. Where it tells its end's state, that is t
-pub record RanStores (s t : EndState) (q : ℕ) (words : List ℕ) (told told' : Option Told) (memory memory' : Option Memory) : Type 0 where
+-- word stands there. Where it tells its end's state, that is t. Where it tells what it heard, that are just the answers of these steps
+pub record RanStores (s t : EndState) (q : ℕ) (words : List ℕ) (told told' : Option Told) (tale tale' : Tale) : Type 0 where
+  pub values : List ℕ
   pub state : t ≡ with_pages s (stored_all s.pages q 0 words)
+  pub each : length values ≡ length words
   pub silent : told ≡ None → told' ≡ None
   pub tells : (u : Told) → told ≡ Some u → told' ≡ Some (told_paged (length words) t u)
-  pub runs : (m : Memory) → memory ≡ Some m → memory' ≡ Some (memory_stored s.machine.cells q 0 words m)
+  pub runs : (m : Memory) → tale.memory ≡ Some m → tale'.memory ≡ Some (memory_stored s.machine.cells q 0 words m)
+  pub hears : HeardJust tale tale' values

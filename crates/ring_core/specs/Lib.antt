@@ -7,7 +7,10 @@ pub mod Pages
 pub mod PageRuns
 pub mod Loading
 pub mod Lending
-pub mod Tallies
 pub mod Drives
 pub mod Laying
+pub mod PageWords
 pub mod Going
+pub mod Driven
+pub mod Listing
+pub mod Keeping

@@ -3,7 +3,7 @@ use Rattle.std.specs.Prelude.{◌≡◌, ℕ, zero, suc, ◌+◌, ◌-◌, List,
 use Rattle.page_kept.specs.declared.page_call.PageCall.{PageCall}
 use Rattle.page_kept.specs.declared.page_call.PageCall.TheVariants.{Off, StoreWord, LoadWords}
 use Rattle.ring_core.specs.declared.told.Told.{Told}
-use Rattle.ring_core.specs.Told.{Memory, Pair, pair, answer_of, memory_after}
+use Rattle.ring_core.specs.Told.{HeardJust, Memory, Pair, pair, answer_of, memory_after, Tale}
 use Rattle.ring_machine.specs.declared.place.Op.{Op}
 use Rattle.ring_machine.specs.declared.state.EndState.{EndState}
 use Rattle.ring_machine.specs.PageCalls.{after_page, page_op, paged}
@@ -36,11 +36,13 @@ abbrev pub told_paged : ℕ → EndState → Told → Told
 told_paged n t u = record { state = t; steps = u.steps + n; raised = u.raised; woke = u.woke }
 
 -- The page call c that began at the state s ended at the state t: t is the state on what its steps answered, one answer a step. Where the seat tells its
--- memory, the call is the run of its steps on it. Where it tells its end's state, that is t, and the seat counts as many steps as there are answers
-pub record RanPages (s t : EndState) (c : PageCall) (told told' : Option Told) (memory memory' : Option Memory) : Type 0 where
+-- memory, the call is the run of its steps on it. Where it tells its end's state, that is t, and the seat counts as many steps as there are answers. Where
+-- it tells what it heard, that are just these answers
+pub record RanPages (s t : EndState) (c : PageCall) (told told' : Option Told) (tale tale' : Tale) : Type 0 where
   pub values : List ℕ
   pub state : t ≡ page_afters s c values
   pub each : length values ≡ steps_in c
   pub silent : told ≡ None → told' ≡ None
   pub tells : (u : Told) → told ≡ Some u → told' ≡ Some (told_paged (length values) t u)
-  pub runs : (m : Memory) → memory ≡ Some m → (m' : Memory) × (memory' ≡ Some m') × (page_run (length values) (pair (paged s c) m) ≡ pair t m')
+  pub runs : (m : Memory) → tale.memory ≡ Some m → (m' : Memory) × (tale'.memory ≡ Some m') × (page_run (length values) (pair (paged s c) m) ≡ pair t m')
+  pub hears : HeardJust tale tale' values

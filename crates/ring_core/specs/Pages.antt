@@ -1,5 +1,5 @@
--- What an end keeps of its pages, by its machine, its two lists and its table.
-use Rattle.std.specs.Prelude.{◌≡◌, ◌≢◌, ℕ, ◌+◌, ◌*◌, ◌<◌, ◌==◌, Bool, true, not, cond, List, [], ◌∷◌, length, replicate, Option, Some, None}
+-- What an end keeps of its pages, by its machine, its packets and its table.
+use Rattle.std.specs.Prelude.{◌≡◌, ◌≢◌, ℕ, ◌*◌, ◌==◌, Bool, true, cond, List, [], ◌∷◌, length, replicate, Option, Some, None}
 use Rattle.channel_trace.specs.declared.event.Event.{Event}
 use Rattle.io_edge.specs.declared.side.Side.{Side}
 use Rattle.page_kept.specs.declared.item.Item.{Item}
@@ -16,7 +16,11 @@ use Rattle.ring_machine.specs.declared.machine.EndMachine.{EndMachine}
 use Rattle.ring_machine.specs.declared.state.EndState.{EndState}
 use Rattle.ring_machine.specs.States.{resting_with}
 use Rattle.ring_machine.specs.declared.page_core.PageCore.{PageCore}
-use Rattle.ring_core.specs.Seen.{Listed}
+
+-- packets, and the page words that went along with each, as far as these came
+pub record Paged : Type 0 where
+  pub list : List (List ℕ)
+  pub lent : List (List ℕ)
 
 -- each packet with its page words, as far as these came
 abbrev pub items_of : List (List ℕ) → List (List ℕ) → List Item
@@ -24,11 +28,11 @@ items_of [] ws = []
 items_of (p ∷ ps) [] = []
 items_of (p ∷ ps) (w ∷ ws) = item_of p w ∷ items_of ps ws
 
-abbrev pub kept_of : PageCore → Listed → Listed → Table → Kept
+abbrev pub kept_of : PageCore → Paged → Paged → Table → Kept
 kept_of k sent got t = record { count = k.count; sent = items_of sent.list sent.lent; got = items_of got.list got.lent; owners = t.owners; copy = t.copy; due = k.due; call = k.call }
 
 -- an end between two calls, by its machine, what that knows of the pages, its lists, its past and its table
-abbrev pub resting_in : EndMachine → PageCore → Listed → Listed → List (Event (List ℕ)) → Table → EndState
+abbrev pub resting_in : EndMachine → PageCore → Paged → Paged → List (Event (List ℕ)) → Table → EndState
 resting_in m k sent got past t = resting_with m sent.list got.list past (kept_of k sent got t)
 
 -- the pages of a new end
@@ -48,20 +52,6 @@ owed (Loads q n j) = 1
 abbrev pub is_whole : Due → Bool
 is_whole Clear = true
 is_whole (Loads q n j) = j == 0
-
--- The pages of an end between two calls: it is in no page call, its table has the channel's pages, and each packet of its lists has its page words, but the
--- last one that was got, where they are due. A channel without pages keeps no page words
-pub record ArePages (k : PageCore) (sent got : Listed) (t : Table) : Type 0 where
-  pub off : k.call ≡ Off
-  pub count : length t.owners ≡ k.count
-  pub sent_paged : sent.paged ≡ not (k.count == 0)
-  pub got_paged : got.paged ≡ not (k.count == 0)
-  pub sent_bare : k.count ≡ 0 → sent.lent ≡ []
-  pub got_bare : k.count ≡ 0 → got.lent ≡ []
-  pub sent_all : k.count ≢ 0 → length sent.list ≡ length sent.lent
-  pub got_all : k.count ≢ 0 → length got.list ≡ length got.lent + owed k.due
-  pub room : 0 < owed k.due → 0 < got.lent_room.packets
-  pub whole : is_whole k.due ≡ true
 
 -- the page words of the item that stands last
 abbrev pub last_words : List Item → List ℕ

@@ -17,21 +17,23 @@ pub record Rowed : Type 0 where
   pub list : List (List ℕ)
   pub room : Room
 
--- a list of packets, the page words of each, whether they are kept, the room for more packets, and the room of the page words
+-- A list of packets, the page words of each, whether they are kept, for how many packets more room was made, the room for more packets, and the room of the page
+-- words
 pub record Listed : Type 0 where
   pub list : List (List ℕ)
   pub lent : List (List ℕ)
   pub paged : Bool
+  pub places : ℕ
   pub room : Room
   pub lent_room : Room
 
--- the room for packets: the lesser of both, where page words are kept
-abbrev pub room_in : Bool → Room → Room → Room
-room_in false rows lent = rows
-room_in true rows lent = record { packets = min rows.packets lent.packets; words = min rows.words lent.words }
+-- the room for packets: the lesser of both, where page words are kept, and for no more packets than room was made for
+abbrev pub room_in : Bool → ℕ → Room → Room → Room
+room_in false places rows lent = rows
+room_in true places rows lent = record { packets = min (min rows.packets lent.packets) places; words = min rows.words lent.words }
 
-abbrev pub listed_in : Bool → Rowed → Rowed → Listed
-listed_in paged rows lent = record { list = rows.list; lent = lent.list; paged = paged; room = room_in paged rows.room lent.room; lent_room = lent.room }
+abbrev pub listed_in : Bool → ℕ → Rowed → Rowed → Listed
+listed_in paged places rows lent = record { list = rows.list; lent = lent.list; paged = paged; places = places; room = room_in paged places rows.room lent.room; lent_room = lent.room }
 
 -- a send of n words that ended so takes at most one packet and these words of spare room, and none where it sent nothing
 pub record SentRoom (how : Ending) (n : ℕ) (old new : Room) : Type 0 where

@@ -8,7 +8,7 @@ use Rattle.ring_machine.specs.EndCalls.{Take}
 use Rattle.ring_machine.specs.Steps.{is_took, call_by, take_begun}
 use Rattle.ring_machine.specs.States.{Gets, past_of}
 use Rattle.ring_machine.specs.Endings.{Leaves, LeavesBy, why_of, take_refusal, is_empty_refusal}
-use Rattle.ring_core.specs.Told.{Memory, MakesSteps}
+use Rattle.ring_core.specs.Told.{MakesSteps, Tale}
 use Rattle.page_kept.specs.Kept.{pages_took}
 use Rattle.page_kept.specs.Layouts.{layout}
 use Rattle.ring_machine.specs.PageCalls.{newest}
@@ -21,8 +21,8 @@ is_honest_take None = true
 is_honest_take (Some r) = is_empty_refusal r
 
 -- a take of an end that isn't stopped
-pub record TakesIdle (S : Type 0) (told : S → Option Told) (memory : S → Option Memory) (old new : Seen S) (refusal : Option TakeRefusal) : Type 0 where
-  pub ran : MakesSteps told memory (take_begun old.state.machine) [] old new
+pub record TakesIdle (S : Type 0) (told : S → Option Told) (tale : S → Tale) (old new : Seen S) (refusal : Option TakeRefusal) : Type 0 where
+  pub ran : MakesSteps told tale (take_begun old.state.machine) [] old new
   pub answer : refusal ≡ cond (is_took new.state.machine.ended) None (Some (take_refusal new.state.machine.ended new.state.machine))
   pub call : call_by new.state.machine.ended ≡ Take
   pub leaves : Leaves old.state.machine new.state.machine
@@ -36,8 +36,8 @@ pub record TakesPages (old new : EndState) : Type 0 where
   pub pages : old.machine.stage ≡ Idle → new.pages ≡ cond (is_took new.machine.ended) (pages_took (layout old.pages.count) old.pages (newest new.got)) old.pages
 
 -- What a take leaves: a stopped end refuses, and nothing is changed. Where the seat tells the end's state, the answer is a packet, or that there is none
-pub record Takes (S : Type 0) (told : S → Option Told) (memory : S → Option Memory) (same : S → S → Type 0) (old new : Seen S) (refusal : Option TakeRefusal) : Type 0 where
-  pub idle : old.state.machine.stage ≡ Idle → TakesIdle S told memory old new refusal
+pub record Takes (S : Type 0) (told : S → Option Told) (tale : S → Tale) (same : S → S → Type 0) (old new : Seen S) (refusal : Option TakeRefusal) : Type 0 where
+  pub idle : old.state.machine.stage ≡ Idle → TakesIdle S told tale old new refusal
   pub stopped : old.state.machine.stage ≡ Stopped → (refusal ≡ Some (StoppedTake (why_of old.state.machine))) × (new ≡ old)
   pub honest : (u : Told) → told old.seat ≡ Some u → (old.state.machine.stage ≡ Idle) × (new.state.machine.stage ≡ Idle) × (is_honest_take refusal ≡ true)
   pub same_seat : same old.seat new.seat

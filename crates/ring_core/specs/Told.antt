@@ -1,4 +1,4 @@
--- What a seat tells: of its end, and of its memory, whose words, steps made and changes still due count. And a call of an end there.
+-- What a seat tells: of its end, of its memory, whose words, steps made and changes still due count, and of what its steps answered. And a call of an end there.
 use Rattle.std.specs.Prelude.{◌≡◌, ◌≢◌, ◌≤◌, Bool, true, false, ℕ, zero, suc, ◌+◌, ◌%◌, ◌^◌, cond, leb, List, [], ◌∷◌, length, replicate, slice_index, slice_set, ◌*◌, ◌++◌, Option, Some, None, ◌==◌}
 use Rattle.channel_trace.specs.declared.event.Event.{Event}
 use Rattle.page_kept.specs.declared.kept.Kept.{Kept}
@@ -24,6 +24,25 @@ pub record Memory : Type 0 where
   pub words : List ℕ
   pub steps : ℕ
   pub due : List Change
+
+-- what a seat tells of its channel's words, each where it does: the memory, and what its own steps answered so far, the last one first
+pub record Tale : Type 0 where
+  pub memory : Option Memory
+  pub heard : Option (List ℕ)
+
+-- a seat that tells its memory, one that tells what it heard, and one that tells nothing
+abbrev pub tells_memory : Memory → Tale
+tells_memory m = record { memory = Some m; heard = None }
+
+abbrev pub tells_heard : List ℕ → Tale
+tells_heard vs = record { memory = None; heard = Some vs }
+
+abbrev pub tells_nothing : Tale
+tells_nothing = record { memory = None; heard = None }
+
+-- what a seat heard in between are just these answers, the last one first
+abbrev pub HeardJust : Tale → Tale → List ℕ → Type 0
+HeardJust tale tale' values = (vs : List ℕ) → tale.heard ≡ Some vs → tale'.heard ≡ Some (values ++ vs)
 
 -- the words once the changes due up to this step are made
 abbrev pub changed : ℕ → ℕ → List Change → List ℕ → List ℕ
@@ -138,23 +157,24 @@ AreSteps s (v ∷ vs) = (is_busy_at (afters s vs).machine.stage ≡ true) × Are
 
 -- A call that began at the state s ended at the state t: t is the machine's state on what its steps answered, one answer a step, at most as many as the
 -- call's row has. Where the seat tells its memory, the call is the machine's run on it. Where it tells its end's state, that is t, the end isn't
--- stopped, and the seat counts as many steps as there are answers
-pub record Ran (s t : EndState) (told told' : Option Told) (memory memory' : Option Memory) : Type 0 where
+-- stopped, and the seat counts as many steps as there are answers. Where it tells what it heard, that are just these answers
+pub record Ran (s t : EndState) (told told' : Option Told) (tale tale' : Tale) : Type 0 where
   pub values : List ℕ
   pub state : t ≡ afters s values
   pub each : AreSteps s values
   pub few : length values ≤ made_at t.machine.stage t.machine
   pub silent : told ≡ None → told' ≡ None
   pub tells : (u : Told) → told ≡ Some u → (told' ≡ Some (told_by s values t u)) × (t.machine.stage ≢ Stopped)
-  pub runs : (m : Memory) → memory ≡ Some m → (m' : Memory) × (memory' ≡ Some m') × (run (length values) (pair s m) ≡ pair t m')
+  pub runs : (m : Memory) → tale.memory ≡ Some m → (m' : Memory) × (tale'.memory ≡ Some m') × (run (length values) (pair s m) ≡ pair t m')
+  pub hears : HeardJust tale tale' values
 
 -- the call that this machine has begun, with this packet, made its steps: from what a contract saw of the end before it to what it sees after it
-abbrev pub MakesSteps : {S : Type 0} → (S → Option Told) → (S → Option Memory) → EndMachine → List ℕ → Seen S → Seen S → Type 0
-MakesSteps told memory begun packet old new = Ran (entered old.state begun packet) new.state (told old.seat) (told new.seat) (memory old.seat) (memory new.seat)
+abbrev pub MakesSteps : {S : Type 0} → (S → Option Told) → (S → Tale) → EndMachine → List ℕ → Seen S → Seen S → Type 0
+MakesSteps told tale begun packet old new = Ran (entered old.state begun packet) new.state (told old.seat) (told new.seat) (tale old.seat) (tale new.seat)
 
 -- what a call leaves, where its lists and its pages are as they should be
-pub record Left (base : EndState) (told told' : Option Told) (memory memory' : Option Memory) (m : EndMachine) (sent got : List (List ℕ)) (past : List (Event (List ℕ))) (k : Kept) : Type 0 where
-  pub ran : Ran base (resting_with m sent got past k) told told' memory memory'
+pub record Left (base : EndState) (told told' : Option Told) (tale tale' : Tale) (m : EndMachine) (sent got : List (List ℕ)) (past : List (Event (List ℕ))) (k : Kept) : Type 0 where
+  pub ran : Ran base (resting_with m sent got past k) told told' tale tale'
   pub told_is : (u : Told) → told' ≡ Some u → u.state ≡ resting_with m sent got past k
 
 -- what a contract sees of a memory: the cells of each of its rings, its data pages, and its words

@@ -1,11 +1,11 @@
-//! The drivers of a call: the loops that make its steps. They work for an end that keeps its packets, and for one that keeps none.
-ghost use Rattle.std.specs.Prelude.{◌≡◌, ◌<◌, true, false, length, Some, None};
+//! The drivers of a call: the loops that make its steps.
+ghost use Rattle.std.specs.Prelude.{◌≡◌, ◌<◌, true, false, [], ◌∷◌, length, Some, None};
 ghost use Rattle.ring_core.specs.Drives.{CanStep, StepLeaves};
-ghost use Rattle.ring_core.specs.Going.{MayGo, Goes, Keeps};
-ghost use Rattle.ring_machine.specs.Loops.{SendKeeps, TakeKeeps, CommitKeeps};
+ghost use Rattle.ring_core.specs.Going.{MayGo, Goes};
+ghost use Rattle.ring_machine.specs.Loops.{Keeps, SendKeeps, TakeKeeps, CommitKeeps};
 ghost use Rattle.ring_machine.specs.States.{stored};
 ghost use Rattle.ring_machine.specs.Steps.{is_busy_at, is_copying_at, call_at};
-ghost use Rattle.ring_core.specs.Told.{Memory, memory_after, answer_of, told_page};
+ghost use Rattle.ring_core.specs.Told.{HeardJust, Memory, memory_after, answer_of, told_page};
 ghost use Rattle.ring_core.specs.declared.told.Told.{Told};
 ghost use Rattle.ring_machine.specs.declared.place.Op.{Op};
 ghost use Rattle.ring_machine.specs.PageCalls.{is_paging, page_op, pages_fed, ContinuesPage};
@@ -43,7 +43,7 @@ pub fn step<S: Seatlike>(
     packet: &[u64],
 ) -> u64
     requires { CanStep S.cells S.told seat.old core.old buf.old.items packet.now }
-    ensures { StepLeaves S.cells S.told S.memory S.same seat.old seat.new core.old core.new buf.old.items buf.new.items packet.now result }
+    ensures { StepLeaves S.cells S.told S.tale S.same seat.old seat.new core.old core.new buf.old.items buf.new.items packet.now result }
 {
     let v = seat.perform(core, packet);
     let copies = is_copying(core.machine.stage);
@@ -62,7 +62,8 @@ pub fn page_step<S: Seatlike>(seat: &mut S, core: &mut EndCore) -> u64
     requires goes_on { (u : Told) → S.told seat.old ≡ Some u → ContinuesPage u.state core.old.pages.call }
     ensures machine { core.new.machine ≡ core.old.machine }
     ensures fed { core.new.pages ≡ pages_fed core.old.pages }
-    ensures runs { (m : Memory) (op : Op) → S.memory seat.old ≡ Some m → page_op core.old.pages.call ≡ Some op → (S.memory seat.new ≡ Some (memory_after core.old.machine.cells op m)) × (result ≡ answer_of core.old.machine.cells op m) }
+    ensures runs { (m : Memory) (op : Op) → (S.tale seat.old).memory ≡ Some m → page_op core.old.pages.call ≡ Some op → ((S.tale seat.new).memory ≡ Some (memory_after core.old.machine.cells op m)) × (result ≡ answer_of core.old.machine.cells op m) }
+    ensures hears { HeardJust (S.tale seat.old) (S.tale seat.new) (result ∷ []) }
     ensures same { S.same seat.old seat.new }
     ensures cells { S.cells seat.new ≡ S.cells seat.old }
     ensures silent { S.told seat.old ≡ None → S.told seat.new ≡ None }
@@ -82,7 +83,7 @@ fn step_apart<S: Seatlike>(
     packet: &[u64],
 ) -> u64
     requires { CanStep S.cells S.told seat.old core.old buf.old.items packet.now }
-    ensures { StepLeaves S.cells S.told S.memory S.same seat.old seat.new core.old core.new buf.old.items buf.new.items packet.now result }
+    ensures { StepLeaves S.cells S.told S.tale S.same seat.old seat.new core.old core.new buf.old.items buf.new.items packet.now result }
 {
     step(seat, core, buf, packet)
 }
@@ -126,9 +127,9 @@ fn steps_at<S: Seatlike>(
     packet: &[u64],
     at: Stage,
 )
-    requires may { MayGo S.told S.memory seat.old core.old.machine packet.now buf.old.items }
+    requires may { MayGo S.told S.tale seat.old core.old.machine packet.now buf.old.items }
     requires fits { S.cells seat.old ≡ core.old.machine.cells }
-    ensures goes { Goes S.cells S.told S.memory S.same seat.old seat.new core.old.machine core.new.machine packet.now buf.old.items buf.new.items }
+    ensures goes { Goes S.cells S.told S.tale S.same seat.old seat.new core.old.machine core.new.machine packet.now buf.old.items buf.new.items }
     ensures keeps { Keeps (call_at at) core.old.machine core.new.machine }
     ensures pages { core.new.pages ≡ core.old.pages }
 {
@@ -140,9 +141,9 @@ fn steps_at<S: Seatlike>(
 // Makes steps until the call has ended.
 #[inline(always)]
 fn steps_on<S: Seatlike>(seat: &mut S, core: &mut EndCore, buf: &mut Vec<u64>, packet: &[u64])
-    requires may { MayGo S.told S.memory seat.old core.old.machine packet.now buf.old.items }
+    requires may { MayGo S.told S.tale seat.old core.old.machine packet.now buf.old.items }
     requires fits { S.cells seat.old ≡ core.old.machine.cells }
-    ensures goes { Goes S.cells S.told S.memory S.same seat.old seat.new core.old.machine core.new.machine packet.now buf.old.items buf.new.items }
+    ensures goes { Goes S.cells S.told S.tale S.same seat.old seat.new core.old.machine core.new.machine packet.now buf.old.items buf.new.items }
     ensures pages { core.new.pages ≡ core.old.pages }
     ensures idle { is_busy_at core.new.machine.stage ≡ false }
 {
@@ -214,7 +215,7 @@ pub trait Driver<S: Seatlike> {
     /// Makes the steps of the call until it has ended. `buf` has a place for each cell of a ring; what is sent is `packet`, and else that is empty.
     fn drive(seat: &mut S, core: &mut EndCore, buf: &mut Vec<u64>, packet: &[u64])
         requires { CanDrive S.cells S.told seat.old core.old buf.old.items packet.now }
-        ensures { DriveLeaves S.cells S.told S.memory S.same seat.old seat.new core.old core.new buf.old.items buf.new.items packet.now };
+        ensures { DriveLeaves S.cells S.told S.tale S.same seat.old seat.new core.old core.new buf.old.items buf.new.items packet.now };
 }
 
 /// For a send.

@@ -27,39 +27,34 @@ ghost use Rattle.ring_machine.specs.declared.last.SendRefusal.TheVariants.{Stopp
 ghost use Rattle.ring_machine.specs.declared.machine.Stage.TheVariants.{Idle, Stopped};
 ghost use Rattle.ring_core.specs.declared.told.Told.{Told};
 
-use crate::driver::{ArmLoops, CommitLoops, PlainLoop, PollLoops, SendLoops, TakeLoops};
+use crate::keeping::{keep_got, keep_sent, keep_words, part_along, reserve_ids};
+use crate::lean_end::LeanEnd;
 use crate::packets::Packets;
-use crate::parts::Parts;
 use crate::room::Room;
 use crate::seat::Seatlike;
 use crate::solo_mem::SoloMem;
-use channel_trace::Past;
-use page_kept::Due;
-use page_table::{Loan, PageTable};
-use ring_machine::{Armed, EndCore, SendRefusal, Side, Signalled, Stage, TakeRefusal};
+use page_table::Loan;
+use ring_machine::{Armed, SendRefusal, Side, Signalled, Stage, TakeRefusal, Why};
 use std::alloc::{AllocError, Global};
 use std::marker::Model;
-use std::mem;
 
 /// One end of a channel. Contracts see its state, its seat, and the spare room of its two lists of packets.
 #[derive(Drop)]
 pub struct End<S: Seatlike> {
-    parts: Parts<S>,
+    lean: LeanEnd<S>,
+    sent: Packets,
+    got: Packets,
 }
 
 impl<S: Seatlike> Model for End<S> {
-    ghost use Rattle.std.specs.Prelude.{◌≡◌, ◌≢◌, false, Some};
+    ghost use Rattle.ring_core.specs.Keeping.{Keeps};
     ghost use Rattle.ring_core.specs.Seen.{Seen};
-    ghost use Rattle.ring_core.specs.Pages.{resting_in};
-    ghost use Rattle.ring_machine.specs.Steps.{is_busy_at};
-    ghost use Rattle.ring_machine.specs.declared.machine.Stage.TheVariants.{Stopped};
-    ghost use Rattle.ring_core.specs.declared.told.Told.{Told};
 
     ghost Value = { Seen S };
 
-    ghost view = { λ e. record { state = resting_in e.parts.core.machine e.parts.core.pages e.parts.sent e.parts.got e.parts.past.events e.parts.table; seat = e.parts.seat; spare_sent = e.parts.sent.room; spare_got = e.parts.got.room } };
+    ghost view = { λ e. record { state = e.lean.driven.state; seat = e.lean.driven.seat; spare_sent = e.sent.room; spare_got = e.got.room } };
 
-    ghost invariant = { λ e. record { rests : is_busy_at e.parts.core.machine.stage ≡ false; cells : S.cells e.parts.seat ≡ e.parts.core.machine.cells; told : (u : Told) → S.told e.parts.seat ≡ Some u → u.state ≡ resting_in e.parts.core.machine e.parts.core.pages e.parts.sent e.parts.got e.parts.past.events e.parts.table; pages : S.pages e.parts.seat ≡ e.parts.core.pages.count; honest : (u : Told) → S.told e.parts.seat ≡ Some u → e.parts.core.machine.stage ≢ Stopped } };
+    ghost invariant = { λ e. Keeps S.pages e.lean e.sent e.got };
 }
 
 impl<S: Seatlike> End<S> {
@@ -80,20 +75,10 @@ impl<S: Seatlike> End<S> {
         requires told { (u : Told) → S.told seat ≡ Some u → u.state ≡ resting_with (machine_new side (d / 8)) [] [] [] (first_kept side pages) }
         ensures { IfOk result (λ e. (e.state ≡ resting_with (machine_new side (d / 8)) [] [] [] (first_kept side pages)) × (e.seat ≡ seat)) }
     {
-        let core = EndCore::make(side, d, pages);
-        let buf = Vec::from_elem(alloc, 0, core.machine.cells as usize)?;
-        let table = PageTable::make(alloc, side, pages)?;
-        Ok(End {
-            parts: Parts {
-                core,
-                buf,
-                sent: Packets::new(alloc, pages != 0),
-                got: Packets::new(alloc, pages != 0),
-                past: Past::new(),
-                table,
-                seat,
-            },
-        })
+        let lean = LeanEnd::make(alloc, side, d, seat, pages)?;
+        let sent = Packets::new(alloc, pages != 0);
+        let got = Packets::new(alloc, pages != 0);
+        Ok(End { lean, sent, got })
     }
 
     /// Makes room in both lists. Afterwards the spare room is at least what was asked. After a refusal the lists are unchanged, and no room has
@@ -103,50 +88,57 @@ impl<S: Seatlike> End<S> {
         ensures room { OnOk result ((sent.packets ≤ self.new.spare_sent.packets) × (sent.words ≤ self.new.spare_sent.words) × (got.packets ≤ self.new.spare_got.packets) × (got.words ≤ self.new.spare_got.words)) }
         ensures kept { (self.old.spare_sent.packets ≤ self.new.spare_sent.packets) × (self.old.spare_sent.words ≤ self.new.spare_sent.words) × (self.old.spare_got.packets ≤ self.new.spare_got.packets) × (self.old.spare_got.words ≤ self.new.spare_got.words) }
     {
-        self.parts.sent.reserve(sent)?;
-        self.parts.got.reserve(got)
+        reserve_ids(
+            &mut self.lean,
+            &self.sent,
+            &self.got,
+            sent.packets,
+            got.packets,
+        )?;
+        self.sent.reserve(sent)?;
+        self.got.reserve(got)
     }
 
     /// The room that is left for packets that are sent.
     pub fn spare_sent(&self) -> Room
         ensures { result ≡ self.now.spare_sent }
     {
-        self.parts.sent.room()
+        self.sent.room()
     }
 
     /// The room that is left for packets that are got.
     pub fn spare_got(&self) -> Room
         ensures { result ≡ self.now.spare_got }
     {
-        self.parts.got.room()
+        self.got.room()
     }
 
     /// Whether a packet of so many words fits into the ring, which is never quite full.
     pub fn fits(&self, len: u32) -> bool
         ensures { IsTrue result ↔ (8 * len + 8 < 8 * self.now.state.machine.cells) }
     {
-        8 * len as u64 + 8 < 8 * self.parts.core.machine.cells as u64
+        8 * len as u64 + 8 < 8 * self.cells() as u64
     }
 
     /// The cells of each ring.
     pub fn cells(&self) -> u32
         ensures { result ≡ self.now.state.machine.cells }
     {
-        self.parts.core.machine.cells
+        self.lean.machine().cells
     }
 
     /// How many data pages the channel has.
     pub fn pages(&self) -> u32
         ensures { result ≡ self.now.state.pages.count }
     {
-        self.parts.core.pages.count
+        self.lean.pages()
     }
 
     /// Whether this end has a page of the channel, or holds it. Of a page that the channel hasn't, neither.
     pub fn owns(&self, page: u32) -> bool
         ensures { result ≡ owned_in self.now.state.pages.owners page }
     {
-        self.parts.table.owns(page)
+        self.lean.owns(page)
     }
 
     /// Whether a store of this word of a page may begin, as far as the page goes: nothing is to be loaded, and the end has the page, or holds it, and the word
@@ -155,7 +147,7 @@ impl<S: Seatlike> End<S> {
         ensures may { IsTrue result → MayStore (layout self.now.state.pages.count) self.now.state.machine.side self.now.state.pages page word }
         ensures whole { MayStore (layout self.now.state.pages.count) self.now.state.machine.side self.now.state.pages page word → IsTrue result }
     {
-        !self.is_due() && self.parts.table.can_store(page, word)
+        self.lean.can_store(page, word)
     }
 
     /// In a channel with data pages the items are those of the packets, where nothing is due, and in one without there are none. What the seat tells is the end's
@@ -165,20 +157,19 @@ impl<S: Seatlike> End<S> {
         ensures bare { self.now.state.pages.count ≡ 0 → (self.now.state.pages.sent ≡ []) × (self.now.state.pages.got ≡ []) }
         ensures told { (u : Told) → S.told self.now.seat ≡ Some u → u.state ≡ self.now.state }
     {
-        let _parts = &self.parts;
+        self.lean.stands();
     }
 
     /// Its indices are in their rings, and the packet that it sent or took last fits into one. The call does nothing: its contract is a law.
     pub fn stands_inside(&self)
         ensures { IsSound self.now.state.machine }
     {
-        let _parts = &self.parts;
+        self.lean.stands();
     }
 
     /// Whether a packet may be sent, as far as the data pages go: nothing is to be loaded; the end has the page that a request names, and all earlier requests
-    /// of its id are completed; a completion answers a request that was taken and isn't completed. At most 512 page words go along. Between two questions for
-    /// one id only the packets that came since are looked at: for that the first question takes memory for tallies, about 4 KB a list. Where there is none, each
-    /// question looks at all packets, and the answer is the same.
+    /// of its id are completed; a completion answers a request that was taken and isn't completed. At most 512 page words go along. Each id's open requests are
+    /// counted as packets go, so no list is looked through.
     pub fn can_lend(&mut self, p: &[u64]) -> bool
         requires packet { IsPacket p.now }
         ensures may { IsTrue result → MayLend self.old.state p.now }
@@ -186,7 +177,8 @@ impl<S: Seatlike> End<S> {
         ensures few { IsTrue result → along self.old.state.pages p.now ≤ 512 }
         ensures same { self.new ≡ self.old }
     {
-        self.pages() == 0 || !self.is_due() && self.parts.can_lend(p)
+        self.lean.lends_few(p);
+        self.lean.may_send(p)
     }
 
     /// Whether page words that came with the packet that was taken last are still to be loaded.
@@ -194,43 +186,55 @@ impl<S: Seatlike> End<S> {
         ensures clear { result ≡ false → self.now.state.pages.due ≡ Clear }
         ensures due { result ≡ true → self.now.state.pages.due ≢ Clear }
     {
-        matches!(self.parts.core.pages.due, Due::Loads { .. })
+        self.lean.is_due()
     }
 
     /// Whether a call can begin: the end is neither stopped, asleep nor marked.
     pub fn is_ready(&self) -> bool
         ensures { IsTrue result ↔ ((self.now.state.machine.stage ≡ Idle) × (self.now.state.machine.asleep ≡ false) × (self.now.state.machine.marked ≡ false)) }
     {
-        let m = &self.parts.core.machine;
+        let m = self.lean.machine();
         matches!(m.stage, Stage::Idle) && !m.asleep && !m.marked
+    }
+
+    /// Why it makes no step any more, where it refused what it loaded.
+    pub fn broken(&self) -> Option<Why>
+        ensures some { self.now.state.machine.stage ≡ Stopped → result ≡ Some (why_of self.now.state.machine) }
+        ensures none { self.now.state.machine.stage ≢ Stopped → result ≡ None }
+    {
+        if !self.lean.is_stopped() {
+            return None;
+        }
+        Some(self.lean.why())
     }
 
     /// Whether the end is asleep.
     pub fn is_asleep(&self) -> bool
         ensures { result ≡ self.now.state.machine.asleep }
     {
-        self.parts.core.machine.asleep
+        self.lean.is_asleep()
     }
 
     /// Whether the end said that it sends nothing more.
     pub fn is_marked(&self) -> bool
         ensures { result ≡ self.now.state.machine.marked }
     {
-        self.parts.core.machine.marked
+        self.lean.is_marked()
     }
 
     /// Whether it gave back the cells of all packets that it took, as an arm asks.
     pub fn has_committed(&self) -> bool
         ensures { result ≡ (self.now.state.machine.start == self.now.state.machine.read) }
     {
-        self.parts.core.machine.start == self.parts.core.machine.read
+        let m = self.lean.machine();
+        m.start == m.read
     }
 
     /// Whether the last arm saw the peer's mark.
     pub fn saw_mark(&self) -> bool
         ensures { result ≡ self.now.state.machine.saw }
     {
-        self.parts.core.machine.saw
+        self.lean.machine().saw
     }
 
     /// The packets that were sent, in order, each with the page words that went along.
@@ -238,7 +242,7 @@ impl<S: Seatlike> End<S> {
         ensures list { result.now.list ≡ self.now.state.sent }
         ensures items { items_of result.now.list result.now.lent ≡ self.now.state.pages.sent }
     {
-        &self.parts.sent
+        &self.sent
     }
 
     /// The packets that were got, in order, each with its page words: the last one has none yet where a load is due.
@@ -246,15 +250,17 @@ impl<S: Seatlike> End<S> {
         ensures list { result.now.list ≡ self.now.state.got }
         ensures items { items_of result.now.list result.now.lent ≡ self.now.state.pages.got }
     {
-        &self.parts.got
+        &self.got
     }
 
     /// The seat.
     pub fn seat(&self) -> &S
         ensures value { result.now ≡ self.now.seat }
         ensures cells { S.cells self.now.seat ≡ self.now.state.machine.cells }
+        ensures pages { S.pages self.now.seat ≡ self.now.state.pages.count }
     {
-        &self.parts.seat
+        self.lean.stands();
+        self.lean.seat()
     }
 
     /// The seat, and the lists of what was sent and got.
@@ -265,19 +271,8 @@ impl<S: Seatlike> End<S> {
         ensures items { (items_of result.1.list result.1.lent ≡ self.state.pages.sent) × (items_of result.2.list result.2.lent ≡ self.state.pages.got) }
         ensures told { (u : Told) → S.told result.0 ≡ Some u → u.state ≡ self.state }
     {
-        let End { parts } = self;
-        let Parts {
-            core: _,
-            buf,
-            sent,
-            got,
-            past: _,
-            table,
-            seat,
-        } = parts;
-        drop(buf);
-        drop(table);
-        (seat, sent, got)
+        let End { lean, sent, got } = self;
+        (lean.into_seat(), sent, got)
     }
 
     /// Sends a packet that fits, and says whether that raised the peer's signal. Full comes exactly where the loaded read index leaves no more
@@ -291,7 +286,7 @@ impl<S: Seatlike> End<S> {
         requires fits { length p.now + 1 < self.old.state.machine.cells }
         requires lends { MayLend self.old.state p.now }
         requires room { (0 < self.old.spare_sent.packets) × (length p.now + along self.old.state.pages p.now ≤ self.old.spare_sent.words) }
-        ensures ran { self.old.state.machine.stage ≡ Idle → MakesSteps S.told S.memory (send_begun self.old.state.machine (length p.now)) p.now self.old self.new }
+        ensures ran { self.old.state.machine.stage ≡ Idle → MakesSteps S.told S.tale (send_begun self.old.state.machine (length p.now)) p.now self.old self.new }
         ensures answer { self.old.state.machine.stage ≡ Idle → (result ≡ send_answer self.new.state.machine.ended self.new.state.machine) × (call_by self.new.state.machine.ended ≡ Send) }
         ensures leaves { self.old.state.machine.stage ≡ Idle → Leaves self.old.state.machine self.new.state.machine }
         ensures after { self.old.state.machine.stage ≡ Idle → LeavesBy Send self.old.state.machine self.new.state.machine }
@@ -306,14 +301,19 @@ impl<S: Seatlike> End<S> {
         ensures pages { self.old.state.machine.stage ≡ Idle → self.new.state.pages ≡ cond (is_sent self.new.state.machine.ended) (pages_sent (layout self.old.state.pages.count) self.old.state.pages p.now) self.old.state.pages }
         ensures room { SentRoom self.new.state.machine.ended (length p.now + along self.old.state.pages p.now) self.old.spare_sent self.new.spare_sent }
     {
-        if self.parts.core.is_stopped() {
+        self.lean.stands();
+        if self.lean.is_stopped() {
             return Err(SendRefusal::Stopped {
-                why: self.parts.core.why(),
+                why: self.lean.why(),
             });
         }
-        self.parts.core.begin_send(p.len() as u32);
-        self.parts.make_call::<SendLoops>(p);
-        self.parts.core.send_answered()
+        self.sent.has_places();
+        let part = part_along(&self.lean, p);
+        let answer = self.lean.send(p);
+        self.lean.stands();
+        let went = answer.is_ok();
+        keep_sent(&mut self.sent, &self.lean, went, p, part);
+        answer
     }
 
     /// Gives back the cells of all packets that were taken, and says whether that raised the signal of a producer that waits for room. At most 5
@@ -323,7 +323,7 @@ impl<S: Seatlike> End<S> {
         requires awake { self.old.state.machine.asleep ≡ false }
         requires unmarked { self.old.state.machine.marked ≡ false }
         requires clear { IsClear self.old.state.pages }
-        ensures ran { MakesSteps S.told S.memory (commit_begun self.old.state.machine) [] self.old self.new }
+        ensures ran { MakesSteps S.told S.tale (commit_begun self.old.state.machine) [] self.old self.new }
         ensures answer { (result ≡ commit_answer self.new.state.machine.ended) × (call_by self.new.state.machine.ended ≡ Commit) }
         ensures leaves { Leaves self.old.state.machine self.new.state.machine }
         ensures after { LeavesBy Commit self.old.state.machine self.new.state.machine }
@@ -331,9 +331,8 @@ impl<S: Seatlike> End<S> {
         ensures same { S.same self.old.seat self.new.seat }
         ensures kept { Kept self.old self.new }
     {
-        self.parts.core.begin_commit();
-        self.parts.make_call::<CommitLoops>(&[]);
-        self.parts.core.commit_answered()
+        self.lean.stands();
+        self.lean.commit()
     }
 
     /// Arms the signal and looks once more, for packets, for more room than `want` where there is one, and for the peer's mark. Work comes exactly
@@ -345,7 +344,7 @@ impl<S: Seatlike> End<S> {
         requires committed { self.old.state.machine.start ≡ self.old.state.machine.read }
         requires want { IsWant self.old.state.machine.cells want }
         requires clear { IsClear self.old.state.pages }
-        ensures ran { MakesSteps S.told S.memory (arm_begun self.old.state.machine (want_of want)) [] self.old self.new }
+        ensures ran { MakesSteps S.told S.tale (arm_begun self.old.state.machine (want_of want)) [] self.old self.new }
         ensures answer { (is_asleep result ≡ self.new.state.machine.asleep) × (call_by self.new.state.machine.ended ≡ Arm) }
         ensures leaves { Leaves self.old.state.machine self.new.state.machine }
         ensures after { LeavesBy Arm self.old.state.machine self.new.state.machine }
@@ -353,16 +352,15 @@ impl<S: Seatlike> End<S> {
         ensures same { S.same self.old.seat self.new.seat }
         ensures kept { Kept self.old self.new }
     {
-        self.parts.core.begin_arm(want);
-        self.parts.make_call::<ArmLoops>(&[]);
-        self.parts.core.arm_answered()
+        self.lean.stands();
+        self.lean.arm(want)
     }
 
     /// Takes the signal of an end that is asleep. False comes exactly where it was down. After true the end is awake. At most 3 steps.
     pub fn poll_signal(&mut self) -> bool
         requires idle { self.old.state.machine.stage ≡ Idle }
         requires asleep { self.old.state.machine.asleep ≡ true }
-        ensures ran { MakesSteps S.told S.memory (poll_begun self.old.state.machine) [] self.old self.new }
+        ensures ran { MakesSteps S.told S.tale (poll_begun self.old.state.machine) [] self.old self.new }
         ensures answer { (result ≡ not self.new.state.machine.asleep) × (call_by self.new.state.machine.ended ≡ Poll) }
         ensures leaves { Leaves self.old.state.machine self.new.state.machine }
         ensures after { LeavesBy Poll self.old.state.machine self.new.state.machine }
@@ -370,9 +368,8 @@ impl<S: Seatlike> End<S> {
         ensures same { S.same self.old.seat self.new.seat }
         ensures kept { Kept self.old self.new }
     {
-        self.parts.core.begin_poll();
-        self.parts.make_call::<PollLoops>(&[]);
-        !self.parts.core.machine.asleep
+        self.lean.stands();
+        self.lean.poll_signal()
     }
 
     /// Says that this end sends nothing more, and raises the peer's signal: 2 steps. Afterwards it makes no call.
@@ -381,7 +378,7 @@ impl<S: Seatlike> End<S> {
         requires awake { self.old.state.machine.asleep ≡ false }
         requires unmarked { self.old.state.machine.marked ≡ false }
         requires clear { IsClear self.old.state.pages }
-        ensures ran { MakesSteps S.told S.memory (mark_begun self.old.state.machine) [] self.old self.new }
+        ensures ran { MakesSteps S.told S.tale (mark_begun self.old.state.machine) [] self.old self.new }
         ensures call { call_by self.new.state.machine.ended ≡ Mark }
         ensures leaves { Leaves self.old.state.machine self.new.state.machine }
         ensures after { LeavesBy Mark self.old.state.machine self.new.state.machine }
@@ -389,8 +386,8 @@ impl<S: Seatlike> End<S> {
         ensures same { S.same self.old.seat self.new.seat }
         ensures kept { Kept self.old self.new }
     {
-        self.parts.core.begin_mark();
-        self.parts.make_call::<PlainLoop>(&[]);
+        self.lean.stands();
+        self.lean.mark();
     }
 
     /// Whether the peer said that it sends nothing more: 1 step.
@@ -398,7 +395,7 @@ impl<S: Seatlike> End<S> {
         requires idle { self.old.state.machine.stage ≡ Idle }
         requires awake { self.old.state.machine.asleep ≡ false }
         requires unmarked { self.old.state.machine.marked ≡ false }
-        ensures ran { MakesSteps S.told S.memory (peer_mark_begun self.old.state.machine) [] self.old self.new }
+        ensures ran { MakesSteps S.told S.tale (peer_mark_begun self.old.state.machine) [] self.old self.new }
         ensures answer { (result ≡ peer_mark_answer self.new.state.machine.ended) × (call_by self.new.state.machine.ended ≡ PeerMark) }
         ensures leaves { Leaves self.old.state.machine self.new.state.machine }
         ensures after { LeavesBy PeerMark self.old.state.machine self.new.state.machine }
@@ -406,9 +403,8 @@ impl<S: Seatlike> End<S> {
         ensures same { S.same self.old.seat self.new.seat }
         ensures kept { Kept self.old self.new }
     {
-        self.parts.core.begin_peer_mark();
-        self.parts.make_call::<PlainLoop>(&[]);
-        self.parts.core.peer_mark_answered()
+        self.lean.stands();
+        self.lean.peer_mark()
     }
 
     /// Takes the first waiting packet into the list of those that were got: as `take`, but that it lends no words.
@@ -417,19 +413,23 @@ impl<S: Seatlike> End<S> {
         requires unmarked { self.old.state.machine.marked ≡ false }
         requires room { (0 < self.old.spare_got.packets) × (self.old.state.machine.cells ≤ self.old.spare_got.words) }
         requires clear { IsClear self.old.state.pages }
-        ensures takes { Takes S S.told S.memory S.same self.old self.new (refused result) }
+        ensures takes { Takes S S.told S.tale S.same self.old self.new (refused result) }
         ensures count { self.new.state.pages.count ≡ self.old.state.pages.count }
         ensures pages { self.old.state.machine.stage ≡ Idle → self.new.state.pages ≡ cond (is_took self.new.state.machine.ended) (pages_took (layout self.old.state.pages.count) self.old.state.pages (newest self.new.state.got)) self.old.state.pages }
         ensures took { refused result ≡ None → Gets self.new.state.machine.len self.old.state.got self.new.state.got self.old.state.past self.new.state.past }
     {
-        if self.parts.core.is_stopped() {
+        self.lean.stands();
+        if self.lean.is_stopped() {
             return Err(TakeRefusal::Stopped {
-                why: self.parts.core.why(),
+                why: self.lean.why(),
             });
         }
-        self.parts.core.begin_take();
-        self.parts.make_call::<TakeLoops>(&[]);
-        self.parts.core.take_answered()
+        self.got.has_places();
+        let answer = self.lean.take();
+        self.lean.stands();
+        let went = answer.is_ok();
+        keep_got(&mut self.got, &self.lean, went);
+        answer
     }
 
     /// Stores a word of a page that this end has, or one of the lent words of a page that it holds: 1 step.
@@ -437,12 +437,13 @@ impl<S: Seatlike> End<S> {
         requires idle { self.old.state.machine.stage ≡ Idle }
         requires unmarked { self.old.state.machine.marked ≡ false }
         requires may { MayStore (layout self.old.state.pages.count) self.old.state.machine.side self.old.state.pages page word }
-        ensures ran { RanPages self.old.state self.new.state (StoreWord page word v) (S.told self.old.seat) (S.told self.new.seat) (S.memory self.old.seat) (S.memory self.new.seat) }
+        ensures ran { RanPages self.old.state self.new.state (StoreWord page word v) (S.told self.old.seat) (S.told self.new.seat) (S.tale self.old.seat) (S.tale self.new.seat) }
         ensures pages { self.new.state.pages ≡ page_stored self.old.state.pages page word v }
         ensures kept { KeptByPages self.old self.new × (self.new.spare_got ≡ self.old.spare_got) }
         ensures same { S.same self.old.seat self.new.seat }
     {
-        self.parts.store_word(page, word, v);
+        self.lean.stands();
+        self.lean.page_store(page, word, v);
     }
 
     /// The part of a page that goes along with a packet, if that is sent now: the page that is held under a completion's id, with all its words, and what any
@@ -453,7 +454,7 @@ impl<S: Seatlike> End<S> {
         ensures words { along self.now.state.pages p.now ≡ part_len result }
         ensures none { self.now.state.pages.count ≡ 0 → result ≡ None }
     {
-        self.parts.table.part_of(p)
+        self.lean.part_of(p)
     }
 
     /// Stores words into the part of a page that goes along with a packet, from its first word on: one step a word. The send of that packet, if it comes next,
@@ -465,7 +466,7 @@ impl<S: Seatlike> End<S> {
         requires lends { MayLend self.old.state p.now }
         requires fits { length words.now ≤ along self.old.state.pages p.now }
         ensures pages { self.new.state.pages ≡ laid self.old.state.pages p.now words.now }
-        ensures ran { (a : Lending) → part_in self.old.state.pages.owners p.now ≡ Some a → RanStores self.old.state self.new.state a.page words.now (S.told self.old.seat) (S.told self.new.seat) (S.memory self.old.seat) (S.memory self.new.seat) }
+        ensures ran { (a : Lending) → part_in self.old.state.pages.owners p.now ≡ Some a → RanStores self.old.state self.new.state a.page words.now (S.told self.old.seat) (S.told self.new.seat) (S.tale self.old.seat) (S.tale self.new.seat) }
         ensures none { part_in self.old.state.pages.owners p.now ≡ None → self.new ≡ self.old }
         ensures kept { KeptByPages self.old self.new × (self.new.spare_got ≡ self.old.spare_got) }
         ensures same { S.same self.old.seat self.new.seat }
@@ -473,21 +474,19 @@ impl<S: Seatlike> End<S> {
         ensures along { along self.new.state.pages p.now ≡ along self.old.state.pages p.now }
         ensures words { self.new.state.pages.count ≢ 0 → take (length words.now) (last_words (pages_sent (layout self.new.state.pages.count) self.new.state.pages p.now).sent) ≡ words.now }
     {
-        self.parts.table.lends_in_bounds();
-        if let Some(part) = self.parts.table.part_of(p) {
-            self.parts.store_words(part.page, words);
-        }
+        self.lean.stands();
+        self.lean.lay(p, words);
     }
 
     /// Loads the page words that came with the packet that was taken last, and keeps them with it: as `lent_load`, but that it lends no words.
     pub fn load_in(&mut self)
         requires idle { self.old.state.machine.stage ≡ Idle }
         requires room { 512 ≤ self.old.spare_got.words }
-        ensures loads { Loads S S.told S.memory S.same self.old self.new }
+        ensures loads { Loads S S.told S.tale S.same self.old self.new }
     {
-        if let Due::Loads { page, words, .. } = self.parts.core.pages.due {
-            self.parts.load_words(page, words);
-        }
+        self.lean.stands();
+        let part = self.lean.load();
+        keep_words(&mut self.got, &self.lean, part);
     }
 
     // The page words of the item that was got last.
@@ -495,7 +494,7 @@ impl<S: Seatlike> End<S> {
         requires { 0 < length self.now.state.pages.got }
         ensures { result.now ≡ last_words self.now.state.pages.got }
     {
-        self.parts.got.last_lent()
+        self.got.last_lent()
     }
 
     // The words of the packet that was got last.
@@ -503,7 +502,7 @@ impl<S: Seatlike> End<S> {
         requires { 0 < length self.now.state.got }
         ensures { self.now.state.got ≡ take (length self.now.state.got - 1) self.now.state.got ++ result.now ∷ [] }
     {
-        self.parts.got.last()
+        self.got.last()
     }
 }
 
@@ -515,6 +514,6 @@ impl End<SoloMem> {
         ensures this { self.new ≡ record self.old { seat = other.old.seat } }
         ensures that { other.new ≡ record other.old { seat = self.old.seat } }
     {
-        mem::swap(&mut self.parts.seat, &mut other.parts.seat);
+        self.lean.swap_memory(&mut other.lean);
     }
 }

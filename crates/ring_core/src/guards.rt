@@ -51,8 +51,7 @@ pub fn may_send<S: Seatlike>(e: &End<S>, p: &[u64]) -> bool
 }
 
 /// Whether an end of any channel may send these words: they are a packet that fits into its ring, its data pages allow it, and its list has room for it and for a
-/// whole page. Between two questions for one id only the packets that came since are looked at: for that the first question of a channel with data pages takes
-/// memory for tallies, about 4 KB a list. Where there is none, each question looks at all packets, and the answer is the same.
+/// whole page. The answer takes the same time whatever was sent and got.
 pub fn may_lend<S: Seatlike>(e: &mut End<S>, p: &[u64]) -> bool
     ensures awake { IsTrue result → (e.old.state.machine.asleep ≡ false) × (e.old.state.machine.marked ≡ false) }
     ensures packet { IsTrue result → IsPacket p.now × (length p.now + 1 < e.old.state.machine.cells) }

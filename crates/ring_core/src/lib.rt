@@ -1,26 +1,29 @@
-//! One end of a channel's rings over its machine: seats that make its word steps, and a driver that is generic in its seat.
+//! One end of a channel's rings over its machine: seats that make its word steps, drivers that are generic in their seat, an end that keeps no packet, and one that
+//! keeps all.
 #![tactic(auto)]
 
 mod driver;
 mod end;
 mod guards;
+mod keeping;
 mod laws;
+mod lean_end;
 mod packets;
+mod page_words;
 mod parts;
 mod room;
 mod rows;
 mod seat;
 mod solo_mem;
 mod taken;
-mod tally;
 mod told;
 mod told_mem;
 mod words;
 
-pub use driver::{ArmLoops, CommitLoops, Driver, PlainLoop, PollLoops, SendLoops, TakeLoops};
 pub use end::End;
 pub use guards::{is_packet, may_begin, may_lend, may_send, may_take};
 pub use laws::refuses_by_value;
+pub use lean_end::LeanEnd;
 pub use packets::Packets;
 pub use ring_machine::{
     Armed, Bad, EndCore, EndMachine, EndState, Ending, Indices, Last, Mode, Op, Place, Ring,

@@ -1,17 +1,11 @@
 //! A list of packets, each with the page words that went along.
-ghost use Rattle.std.specs.Prelude.{◌≡◌, ℕ, ◌+◌, ◌≤◌, ◌<◌, ◌++◌, ◌-◌, [], ◌∷◌, length, slice_get, slice_index_or, true, false, cond, OnOk, MatchOption, Some};
-ghost use Rattle.page_kept.specs.Counts.{count, is_done, is_ask};
+ghost use Rattle.std.specs.Prelude.{◌≡◌, ℕ, ◌+◌, ◌≤◌, ◌<◌, ◌++◌, ◌-◌, [], ◌∷◌, length, slice_get, slice_index_or, true, false, cond, max, OnOk, MatchOption, Some};
 ghost use Rattle.ring_core.specs.Seen.{Listed, room_in};
-ghost use Rattle.ring_core.specs.Tallies.{IsTally};
 
 use crate::room::Room;
 use crate::rows::Rows;
-use crate::tally::Tally;
 use std::alloc::{AllocError, Global};
 use std::marker::Model;
-
-/// Tallies are kept of so many ids at a time: as many as a channel can have pages.
-const TALLIES: usize = 128;
 
 /// A list of packets, and the room that is reserved for more. In a channel with data pages each packet has the page words that went along, none or some.
 #[derive(Drop)]
@@ -19,34 +13,32 @@ pub struct Packets {
     rows: Rows,
     lent: Rows,
     paged: bool,
-    // None before the first question, and then one for each rest of an id.
-    tallies: Vec<Tally>,
+    // In a channel with data pages, for how many packets more room was made: their ids have room too.
+    places: u64,
 }
 
 impl Model for Packets {
     ghost use Rattle.std.specs.Prelude.{◌≡◌, false, []};
-    ghost use Rattle.std.specs.List.{All};
-    ghost use Rattle.ring_core.specs.Tallies.{IsTally};
     ghost use Rattle.ring_core.specs.Seen.{Listed, listed_in};
 
     ghost Value = { Listed };
 
-    ghost view = { λ p. listed_in p.paged p.rows p.lent };
+    ghost view = { λ p. listed_in p.paged p.places p.rows p.lent };
 
-    ghost invariant = { λ p. record { bare : p.paged ≡ false → p.lent.list ≡ []; tallied : All (IsTally p.rows.list) p.tallies.items } };
+    ghost invariant = { λ p. p.paged ≡ false → p.lent.list ≡ [] };
 }
 
 impl Packets {
     /// No packets, and no room. `paged` says whether their page words are kept too.
     pub fn new(alloc: Global, paged: bool) -> Packets
         ensures list { (result.list ≡ []) × (result.lent ≡ []) }
-        ensures paged { result.paged ≡ paged }
+        ensures paged { (result.paged ≡ paged) × (result.places ≡ 0) }
     {
         Packets {
             rows: Rows::new(alloc),
             lent: Rows::new(alloc),
             paged,
-            tallies: Vec::new(alloc),
+            places: 0,
         }
     }
 
@@ -55,13 +47,21 @@ impl Packets {
         ensures list { (self.new.list ≡ self.old.list) × (self.new.lent ≡ self.old.lent) × (self.new.paged ≡ self.old.paged) }
         ensures room { OnOk result ((room.packets ≤ self.new.room.packets) × (room.words ≤ self.new.room.words)) }
         ensures kept { (self.old.room.packets ≤ self.new.room.packets) × (self.old.room.words ≤ self.new.room.words) }
-        ensures places { self.old.lent_room.packets ≤ self.new.lent_room.packets }
+        ensures places { (self.old.lent_room.packets ≤ self.new.lent_room.packets) × (self.new.places ≤ max self.old.places room.packets) }
     {
         self.rows.reserve(room)?;
         if self.paged {
             self.lent.reserve(room)?;
         }
+        self.places = self.places.max(room.packets);
         Ok(())
+    }
+
+    // For how many packets more room was made.
+    pub(crate) fn places(&self) -> u64
+        ensures { result ≡ self.now.places }
+    {
+        self.places
     }
 
     /// Gives the room that is left back to the allocator, which has to give room for a copy first.
@@ -72,7 +72,15 @@ impl Packets {
         self.lent.trim()
     }
 
-    /// The room that is left: page words count, and each packet has a place for them.
+    // The room is for no more packets than room was made for. The call does nothing: its contract is a law.
+    pub(crate) fn has_places(&self)
+        ensures { self.now.paged ≡ true → self.now.room.packets ≤ self.now.places }
+    {
+        // For the proof: what a value keeps is known where the value is read.
+        let _places = self.places;
+    }
+
+    /// The room that is left: page words count, and each packet has a place for them. In a channel with data pages it is for no more packets than room was made for.
     pub fn room(&self) -> Room
         ensures { result ≡ self.now.room }
     {
@@ -82,7 +90,7 @@ impl Packets {
         }
         let lent = self.lent.room();
         Room {
-            packets: rows.packets.min(lent.packets),
+            packets: rows.packets.min(lent.packets).min(self.places),
             words: rows.words.min(lent.words),
         }
     }
@@ -104,6 +112,7 @@ impl Packets {
     {
         self.rows.push(packet);
         if self.paged {
+            self.places -= 1;
             self.lent.push(&[]);
         }
     }
@@ -115,9 +124,10 @@ impl Packets {
         requires words { length packet.now + length words.now ≤ self.old.room.words }
         ensures list { self.new.list ≡ self.old.list ++ packet.now ∷ [] }
         ensures lent { self.new.lent ≡ self.old.lent ++ words.now ∷ [] }
-        ensures paged { self.new.paged ≡ self.old.paged }
+        ensures paged { (self.new.paged ≡ self.old.paged) × (self.new.places + 1 ≡ self.old.places) }
         ensures room { (self.old.room.packets ≤ self.new.room.packets + 1) × (self.old.room.words ≤ self.new.room.words + (length packet.now + length words.now)) }
     {
+        self.places -= 1;
         self.rows.push(packet);
         self.lent.push(words);
     }
@@ -142,16 +152,30 @@ impl Packets {
         }
     }
 
-    // Adds a packet whose page words come later.
+    // Adds a packet, in a channel without data pages.
     #[inline(always)]
     pub(crate) fn push_packet(&mut self, packet: &[u64])
         requires packets { 0 < self.old.room.packets }
         requires words { length packet.now ≤ self.old.room.words }
         ensures list { self.new.list ≡ self.old.list ++ packet.now ∷ [] }
         ensures lent { (self.new.lent ≡ self.old.lent) × (self.new.paged ≡ self.old.paged) }
-        ensures place { self.old.paged ≡ true → 0 < self.new.lent_room.packets }
         ensures room { (self.old.room.packets ≤ self.new.room.packets + 1) × (self.old.room.words ≤ self.new.room.words + length packet.now) }
     {
+        self.rows.push(packet);
+    }
+
+    // Adds a packet whose page words come later.
+    pub(crate) fn push_waiting(&mut self, packet: &[u64])
+        requires paged { self.old.paged ≡ true }
+        requires packets { 0 < self.old.room.packets }
+        requires words { length packet.now ≤ self.old.room.words }
+        ensures list { self.new.list ≡ self.old.list ++ packet.now ∷ [] }
+        ensures lent { self.new.lent ≡ self.old.lent }
+        ensures paged { (self.new.paged ≡ self.old.paged) × (self.new.places + 1 ≡ self.old.places) }
+        ensures place { 0 < self.new.lent_room.packets }
+        ensures room { (self.old.room.packets ≤ self.new.room.packets + 1) × (self.old.room.words ≤ self.new.room.words + length packet.now) }
+    {
+        self.places -= 1;
         self.rows.push(packet);
     }
 
@@ -160,48 +184,11 @@ impl Packets {
         requires paged { self.old.paged ≡ true }
         requires packets { 0 < self.old.lent_room.packets }
         requires words { length words.now ≤ self.old.room.words }
-        ensures list { (self.new.list ≡ self.old.list) × (self.new.paged ≡ self.old.paged) }
+        ensures list { (self.new.list ≡ self.old.list) × (self.new.paged ≡ self.old.paged) × (self.new.places ≡ self.old.places) }
         ensures lent { self.new.lent ≡ self.old.lent ++ words.now ∷ [] }
         ensures room { (self.old.room.packets ≤ self.new.room.packets + 1) × (self.old.room.words ≤ self.new.room.words + length words.now) }
     {
         self.lent.push(words);
-    }
-
-    // How many packets of this id there are. Between two questions for one id only the packets that came since are looked at.
-    pub(crate) fn tally(&mut self, tid: u64) -> Tally
-        ensures counts { (result.dones ≡ count (is_done tid) self.old.list) × (result.asks ≡ count (is_ask tid) self.old.list) }
-        ensures same { self.new ≡ self.old }
-    {
-        self.open_tallies();
-        let slot = (tid % TALLIES as u64) as usize;
-        let tally = self.tally_at(slot, tid).of_all(&self.rows);
-        if slot < self.tallies.len() {
-            self.tallies[slot] = tally;
-        }
-        tally
-    }
-
-    // Has a place for each tally, where there is memory for them.
-    fn open_tallies(&mut self)
-        ensures { self.new ≡ self.old }
-    {
-        if !self.tallies.is_empty() {
-            return;
-        }
-        if let Ok(tallies) = Vec::from_elem(*self.tallies.allocator(), Tally::new(0), TALLIES) {
-            self.tallies = tallies;
-        }
-    }
-
-    // The tally that is kept of this id, or a new one.
-    fn tally_at(&self, slot: usize, tid: u64) -> Tally
-        ensures right { IsTally self.now.list result }
-        ensures tid { result.tid ≡ tid }
-    {
-        match self.tallies.get(slot) {
-            Some(tally) if tally.tid == tid => *tally,
-            _ => Tally::new(tid),
-        }
     }
 
     // The packet that came last.

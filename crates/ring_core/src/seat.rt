@@ -3,8 +3,8 @@ use ring_machine::EndCore;
 
 /// A place from which an end's steps are made: words in memory, a table that two threads share, or a list of changes by a peer.
 pub trait Seatlike {
-    ghost use Rattle.std.specs.Prelude.{◌≡◌, ◌≢◌, ℕ, true, Option, Some, None};
-    ghost use Rattle.ring_core.specs.Told.{Memory, memory_after, answer_of, GoesOn, told_step};
+    ghost use Rattle.std.specs.Prelude.{◌≡◌, ◌≢◌, ℕ, true, [], ◌∷◌, Option, Some, None};
+    ghost use Rattle.ring_core.specs.Told.{HeardJust, Memory, memory_after, answer_of, GoesOn, told_step, Tale};
     ghost use Rattle.ring_core.specs.declared.told.Told.{Told};
     ghost use Rattle.ring_machine.specs.PageCalls.{is_paging, is_under_way, next_in};
     ghost use Rattle.ring_machine.specs.Steps.{is_busy_at, fed};
@@ -17,8 +17,9 @@ pub trait Seatlike {
     /// The channel's data pages.
     ghost pages: { Self → ℕ };
 
-    /// The memory, where the seat tells it. It counts the seat's steps.
-    ghost memory: { Self → Option Memory };
+    /// What the seat tells of the channel's words, each where it does: the memory, which counts the seat's steps, and what its own steps answered so far, the last
+    /// one first.
+    ghost tale: { Self → Tale };
 
     /// The state of the end after its last step, and how many steps it has made, where the seat tells them.
     ghost told: { Self → Option Told };
@@ -32,7 +33,8 @@ pub trait Seatlike {
         requires fits { core.now.machine.cells ≡ cells self.old }
         requires pages { is_paging core.now.pages.call ≡ true → core.now.pages.count ≡ pages self.old }
         requires goes_on { (u : Told) → told self.old ≡ Some u → GoesOn (is_busy_at core.now.machine.stage) u.state core.now.machine core.now.pages.call packet.now }
-        ensures runs { (m : Memory) (op : Op) → memory self.old ≡ Some m → next_in core.now.machine core.now.pages.call packet.now ≡ Some op → (memory self.new ≡ Some (memory_after core.now.machine.cells op m)) × (result ≡ answer_of core.now.machine.cells op m) }
+        ensures runs { (m : Memory) (op : Op) → (tale self.old).memory ≡ Some m → next_in core.now.machine core.now.pages.call packet.now ≡ Some op → ((tale self.new).memory ≡ Some (memory_after core.now.machine.cells op m)) × (result ≡ answer_of core.now.machine.cells op m) }
+        ensures hears { HeardJust (tale self.old) (tale self.new) (result ∷ []) }
         ensures same { same self.old self.new }
         ensures cells { cells self.new ≡ cells self.old }
         ensures silent { told self.old ≡ None → told self.new ≡ None }

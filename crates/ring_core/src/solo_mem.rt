@@ -1,7 +1,7 @@
 //! All words of a channel in memory of its own.
 ghost use Rattle.std.specs.Prelude.{◌≡◌, ℕ, ◌+◌, ◌/◌, ◌≤◌, [], slice_set, slice_index, IfOk};
 ghost use Rattle.ring_machine.specs.Places.{IsRingSize, IsPlaceOf, index_of};
-ghost use Rattle.ring_core.specs.Told.{opening_with};
+ghost use Rattle.ring_core.specs.Told.{opening_with, tells_memory};
 
 use crate::seat::Seatlike;
 use crate::told_mem::opening_words;
@@ -66,14 +66,15 @@ impl SoloMem {
 }
 
 impl Seatlike for SoloMem {
-    ghost use Rattle.std.specs.Prelude.{◌≡◌, Some, None, refl};
+    ghost use Rattle.std.specs.Prelude.{◌≡◌, None, refl};
     ghost use Rattle.std.proofs.Common.{◌∙◌};
+    ghost use Rattle.ring_core.specs.Told.{tells_memory};
 
     ghost cells = { λ s. s.cells };
 
     ghost pages = { λ s. s.pages };
 
-    ghost memory = { λ s. Some s.memory };
+    ghost tale = { λ s. tells_memory s.memory };
 
     ghost told = { λ _. None };
 

@@ -42,7 +42,7 @@ impl<S: Seatlike> End<S> {
         requires room { (0 < self.old.spare_got.packets) × (self.old.state.machine.cells ≤ self.old.spare_got.words) }
         requires clear { IsClear self.old.state.pages }
         ensures* after { sem 𝓛 (follows_so (the_row S.row S.Seatlike) (the_row S.row S.Seatlike) self.entry.ghost_name none (λ _ _. ⊤)
-            (λ n. Takes S S.told S.memory S.same self.old n (refused result) × TakesPages self.old.state n.state
+            (λ n. Takes S S.told S.tale S.same self.old n (refused result) × TakesPages self.old.state n.state
             × IfOk result (λ t. IsPacket t.words.now × (length t.words.now ≡ n.state.machine.len) × (n.state.got ≡ self.old.state.got ++ t.words.now ∷ [])))) }
     {
         match self.take_in() {
@@ -59,7 +59,7 @@ impl<S: Seatlike> End<S> {
         requires idle { self.old.state.machine.stage ≡ Idle }
         requires room { 512 ≤ self.old.spare_got.words }
         ensures* after { sem 𝓛 (follows_so (the_row S.row S.Seatlike) (the_row S.row S.Seatlike) self.entry.ghost_name none (λ _ _. ⊤)
-            (λ n. Loads S S.told S.memory S.same self.old n × LendsKept self.old n result.now)) }
+            (λ n. Loads S S.told S.tale S.same self.old n × LendsKept self.old n result.now)) }
     {
         let due = self.is_due();
         self.load_in();

@@ -1,7 +1,7 @@
 //! A memory that a contract can tell: its words, and the changes that a peer makes, each just before a step.
 ghost use Rattle.std.specs.Prelude.{◌≡◌, ℕ, ◌+◌, ◌/◌, ◌%◌, ◌^◌, ◌≤◌, ◌*◌, [], drop, slice_set, slice_index, IfOk, length, replicate};
 ghost use Rattle.ring_machine.specs.Places.{IsRingSize, IsPlaceOf, index_of, words_of};
-ghost use Rattle.ring_core.specs.Told.{changed, later, counted, opening_with, IsScript};
+ghost use Rattle.ring_core.specs.Told.{changed, later, counted, opening_with, IsScript, tells_memory};
 
 use crate::seat::Seatlike;
 use crate::words::{act, look_at, put_at};
@@ -142,14 +142,15 @@ impl ToldMem {
 }
 
 impl Seatlike for ToldMem {
-    ghost use Rattle.std.specs.Prelude.{◌≡◌, Some, None, refl};
+    ghost use Rattle.std.specs.Prelude.{◌≡◌, None, refl};
     ghost use Rattle.std.proofs.Common.{◌∙◌};
+    ghost use Rattle.ring_core.specs.Told.{tells_memory};
 
     ghost cells = { λ s. s.cells };
 
     ghost pages = { λ s. s.pages };
 
-    ghost memory = { λ s. Some s.memory };
+    ghost tale = { λ s. tells_memory s.memory };
 
     ghost told = { λ _. None };
 

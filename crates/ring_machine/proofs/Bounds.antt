@@ -21,35 +21,10 @@ cell_inside : (n k : ℕ) → k < n → (8 * k % 8 ≡ 0) × (8 * k < 8 * n)
 cell_inside n k h = (omega arith, omega (arith, h))
 
 pub inside_at : (m : EndMachine) (c : ℕ) (p : List ℕ) → IsSound m → (st : Stage) → m.stage ≡ st → IsInside m.cells c (next_at st m p)
-inside_at m c p s Idle e = tt
-inside_at m c p s Stopped e = tt
-inside_at m c p s SendRead e = tt
 inside_at m c p s SendCell e = cell_inside m.cells _ (ahead_below m.cells m.write m.done s.write (omega (arith, s.done, s.len)))
-inside_at m c p s SendWrite e = tt
-inside_at m c p s SendMask e = tt
-inside_at m c p s SendLook e = tt
-inside_at m c p s SendRaise e = tt
-inside_at m c p s TakeWrite e = tt
 inside_at m c p s TakeFirst e = cell_inside m.cells m.read s.read
 inside_at m c p s TakeCell e = cell_inside m.cells _ (ahead_below m.cells m.read m.done s.read (omega (arith, s.done, s.len)))
-inside_at m c p s CommitRead e = tt
-inside_at m c p s CommitFeature e = tt
-inside_at m c p s CommitPending e = tt
-inside_at m c p s CommitWrite e = tt
-inside_at m c p s CommitRaise e = tt
-inside_at m c p s ArmPending e = tt
-inside_at m c p s ArmMask e = tt
-inside_at m c p s ArmWrite e = tt
-inside_at m c p s ArmRead e = tt
-inside_at m c p s ArmMark e = tt
-inside_at m c p s ArmUndoMask e = tt
-inside_at m c p s ArmUndoPending e = tt
-inside_at m c p s PollSignal e = tt
-inside_at m c p s PollMask e = tt
-inside_at m c p s PollPending e = tt
-inside_at m c p s MarkStore e = tt
-inside_at m c p s MarkRaise e = tt
-inside_at m c p s PeerMark e = tt
+inside_at m c p s _ e = tt
 
 -- a step of the rings, or else one on a page word
 or_inside : (n c : ℕ) (a b : Option Op) → IsInside n c a → IsInside n c b → IsInside n c (or_else a b)

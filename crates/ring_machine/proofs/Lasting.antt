@@ -62,24 +62,18 @@ module _ (m : EndMachine) (v : ℕ) where
   on e f w r = λ h. record { ended = e; room = f; words = w; read = r }
 
   stays_at : (st : Stage) → m.stage ≡ st → Stays (fed_at st m v)
-  stays_at Idle e = on refl refl refl refl
-  stays_at Stopped e = on refl refl refl refl
   stays_at SendRead e = at_cond Stays (is_index m.cells v) _ _ (λ t. at_cond Stays (leb (free m.cells (cell_of v) m.write) (m.len + 1)) _ _ (λ u h. absurd (cc)) (λ u. on refl refl refl refl)) (λ t h. absurd (cc))
   stays_at SendCell e = at_cond Stays (ltb m.done m.len) _ _ (λ t. on refl refl refl refl) (λ t. on refl refl refl refl)
-  stays_at SendWrite e = on refl refl refl refl
   stays_at SendMask e = at_cond Stays (eqb (low v) 0) _ _ (λ t. on refl refl refl refl) (λ t h. absurd (cc))
   stays_at SendLook e = at_cond Stays (eqb (low v) (8 * m.old)) _ _ (λ t. on refl refl refl refl) (λ t h. absurd (cc))
   stays_at SendRaise e = λ h. absurd (cc)
   stays_at TakeWrite e = at_cond Stays (is_index m.cells v) _ _ (λ t. at_cond Stays (eqb (cell_of v) m.read) _ _ (λ u h. absurd (cc)) (λ u. on refl refl refl refl)) (λ t h. absurd (cc))
   stays_at TakeFirst e = at_cond Stays (leb 2 (len8_of v) && ltb (len8_of v) (used m.cells m.read m.seen)) _ _ (λ t. at_cond Stays (leb 2 (offset8_of v) && leb (offset8_of v) (len8_of v)) _ _ (λ u. on refl refl refl refl) (λ u h. absurd (cc))) (λ t h. absurd (cc))
   stays_at TakeCell e = at_cond Stays (ltb (m.done + 1) m.len) _ _ (λ t. on refl refl refl refl) (λ t h. absurd (cc))
-  stays_at CommitRead e = on refl refl refl refl
   stays_at CommitFeature e = at_cond Stays (eqb (low v % 2) 1) _ _ (λ t. on refl refl refl refl) (λ t h. absurd (cc))
   stays_at CommitPending e = at_cond Stays (eqb (low v) 0) _ _ (λ t h. absurd (cc)) (λ t. on refl refl refl refl)
   stays_at CommitWrite e = at_cond Stays (makes_room m v) _ _ (λ t. on refl refl refl refl) (λ t h. absurd (cc))
   stays_at CommitRaise e = λ h. absurd (cc)
-  stays_at ArmPending e = on refl refl refl refl
-  stays_at ArmMask e = on refl refl refl refl
   stays_at ArmWrite e = at_cond Stays (eqb (low v) (8 * m.read)) _ _ (λ t. at_cond Stays (eqb m.want 0) _ _ (λ u. on refl refl refl refl) (λ u. on refl refl refl refl)) (λ t. on refl refl refl refl)
   stays_at ArmRead e = at_cond Stays (finds_room m v) _ _ (λ t. on refl refl refl refl) (λ t. on refl refl refl refl)
   stays_at ArmMark e = at_cond Stays (eqb v 0) _ _ (λ t h. absurd (cc)) (λ t. on refl refl refl refl)
@@ -88,9 +82,9 @@ module _ (m : EndMachine) (v : ℕ) where
   stays_at PollSignal e = at_cond Stays (eqb v 0) _ _ (λ t h. absurd (cc)) (λ t. on refl refl refl refl)
   stays_at PollMask e = at_cond Stays (eqb m.want 0) _ _ (λ t h. absurd (cc)) (λ t. on refl refl refl refl)
   stays_at PollPending e = λ h. absurd (cc)
-  stays_at MarkStore e = on refl refl refl refl
   stays_at MarkRaise e = λ h. absurd (cc)
   stays_at PeerMark e = at_cond Stays (eqb v 0) _ _ (λ t h. absurd (cc)) (λ t h. absurd (cc))
+  stays_at _ e = on refl refl refl refl
 
   -- a machine that refused makes no step
   whole : IsSound m → is_busy_at (fed m v).stage ≡ true → (b : Bool) → is_broken m.ended ≡ b → is_broken m.ended ≡ false

@@ -12,13 +12,8 @@ use Rattle.ring_machine.specs.declared.machine.EndMachine.{EndMachine}
 use Rattle.ring_machine.specs.Places.{ahead, used, free, low, is_index, cell_of, len8_of, offset8_of}
 use Rattle.ring_machine.specs.Steps.{IsSound, fed_at, ends, is_busy_at, is_copying_at, makes_room, finds_room}
 use Rattle.ring_machine.specs.States.{copied_at, pages_after, pages_while, pages_by_ending, stored}
+use Rattle.ring_machine.specs.Moves.{pages_at}
 use Rattle.ring_machine.proofs.Sound.{at_cond}
-
--- the pages at a stage of a call that began with k, or after the call
-abbrev pub pages_at : Stage → EndMachine → Kept → List ℕ → List ℕ → Kept
-pages_at Idle m k p buf = pages_by_ending m.ended m k p buf
-pages_at Stopped m k p buf = pages_by_ending m.ended m k p buf
-pages_at st m k p buf = pages_while st k p
 
 module _ (m : EndMachine) (v : ℕ) (k : Kept) (p buf : List ℕ) (s : IsSound m) (w : length buf ≡ m.cells) where
   abbrev sent : Kept
@@ -40,10 +35,8 @@ module _ (m : EndMachine) (v : ℕ) (k : Kept) (p buf : List ℕ) (s : IsSound m
   pages_moved Stopped e b = absurd (cc)
   pages_moved SendRead e b = two k buf (is_index m.cells v) _ _ (two k buf (leb (free m.cells (cell_of v) m.write) (m.len + 1)) _ _ refl refl) refl
   pages_moved SendCell e b = two k buf (ltb m.done m.len) _ _ (sym (stays SendCell e refl (record m { done = m.done + 1 }) refl)) refl
-  pages_moved SendWrite e b = refl
   pages_moved SendMask e b = two sent buf (eqb (low v) 0) _ _ refl refl
   pages_moved SendLook e b = two sent buf (eqb (low v) (8 * m.old)) _ _ refl refl
-  pages_moved SendRaise e b = refl
   pages_moved TakeWrite e b = two k buf (is_index m.cells v) _ _ (two k buf (eqb (cell_of v) m.read) _ _ refl refl) refl
   pages_moved TakeFirst e b = two k (set buf m.done v) (leb 2 (len8_of v) && ltb (len8_of v) (used m.cells m.read m.seen)) _ _ (two k (set buf m.done v) (leb 2 (offset8_of v) && leb (offset8_of v) (len8_of v)) _ _ refl refl) refl
   pages_moved TakeCell e b = took (ltb (m.done + 1) m.len) refl
@@ -57,24 +50,17 @@ module _ (m : EndMachine) (v : ℕ) (k : Kept) (p buf : List ℕ) (s : IsSound m
           let last : m.len ≡ m.done + 1 = grind (arith, nat_tests) in
           let words : take m.done buf ++ v ∷ [] ≡ take m.len (set buf m.done v) = sym (take-suc-set buf m.done v room) ∙ ap (λ (n : ℕ). take n (set buf m.done v)) (sym (last ∙ add-one m.done)) in
           ap (pages_took (layout k.count) k) words
-  pages_moved CommitRead e b = refl
   pages_moved CommitFeature e b = two k buf (eqb (low v % 2) 1) _ _ refl refl
   pages_moved CommitPending e b = two k buf (eqb (low v) 0) _ _ refl refl
   pages_moved CommitWrite e b = two k buf (makes_room m v) _ _ refl refl
-  pages_moved CommitRaise e b = refl
-  pages_moved ArmPending e b = refl
-  pages_moved ArmMask e b = refl
   pages_moved ArmWrite e b = two k buf (eqb (low v) (8 * m.read)) _ _ (two k buf (eqb m.want 0) _ _ refl refl) refl
   pages_moved ArmRead e b = two k buf (finds_room m v) _ _ refl refl
   pages_moved ArmMark e b = two k buf (eqb v 0) _ _ refl refl
   pages_moved ArmUndoMask e b = two k buf (eqb m.want 0) _ _ refl refl
-  pages_moved ArmUndoPending e b = refl
   pages_moved PollSignal e b = two k buf (eqb v 0) _ _ refl refl
   pages_moved PollMask e b = two k buf (eqb m.want 0) _ _ refl refl
-  pages_moved PollPending e b = refl
-  pages_moved MarkStore e b = refl
-  pages_moved MarkRaise e b = refl
   pages_moved PeerMark e b = two k buf (eqb v 0) _ _ refl refl
+  pages_moved _ e b = refl
 
 -- after a call
 pub pages_over : (m : EndMachine) (k : Kept) (p buf : List ℕ) (st : Stage) → is_busy_at st ≡ false → pages_at st m k p buf ≡ pages_by_ending m.ended m k p buf

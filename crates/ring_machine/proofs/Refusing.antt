@@ -47,10 +47,8 @@ module _ (m : EndMachine) (v : ℕ) where
   caused Stopped e b = absurd (cc)
   caused SendRead e b = at_cond Caused (is_index m.cells v) _ _ (λ t. at_cond Caused (leb (free m.cells (cell_of v) m.write) (m.len + 1)) _ _ (λ u h. absurd (cc)) (λ u h. absurd (cc))) (λ t h. (e, t, refl))
   caused SendCell e b = at_cond Caused (ltb m.done m.len) _ _ (λ t. goes_on SendCell e _ refl refl) (λ t h. absurd (cc))
-  caused SendWrite e b = λ h. absurd (cc)
   caused SendMask e b = at_cond Caused (eqb (low v) 0) _ _ (λ t h. absurd (cc)) (λ t h. absurd (cc))
   caused SendLook e b = at_cond Caused (eqb (low v) (8 * m.old)) _ _ (λ t h. absurd (cc)) (λ t h. absurd (cc))
-  caused SendRaise e b = λ h. absurd (cc)
   caused TakeWrite e b = at_cond Caused (is_index m.cells v) _ _ (λ t. at_cond Caused (eqb (cell_of v) m.read) _ _ (λ u h. absurd (cc)) (λ u h. absurd (cc))) (λ t h. (e, t, refl))
   caused TakeFirst e b =
       at_cond Caused (leb 2 (len8_of v) && ltb (len8_of v) (used m.cells m.read m.seen)) _ _
@@ -66,24 +64,17 @@ module _ (m : EndMachine) (v : ℕ) where
       short_or_long_at : (leb 2 (len8_of v) && ltb (len8_of v) (used m.cells m.read m.seen)) ≡ false → (v / 65536 % 4294967296 / 65536 < 2) ⊎ (8 * used m.cells m.read m.seen < 8 * (v / 65536 % 4294967296 / 65536) + 8)
       short_or_long_at t = subst (λ (k : ℕ). (k < 2) ⊎ (8 * used m.cells m.read m.seen < 8 * k + 8)) (sym upper) (short_or_long (len8_of v) (used m.cells m.read m.seen) t)
   caused TakeCell e b = at_cond Caused (ltb (m.done + 1) m.len) _ _ (λ t. goes_on TakeCell e _ refl refl) (λ t h. absurd (cc))
-  caused CommitRead e b = λ h. absurd (cc)
   caused CommitFeature e b = at_cond Caused (eqb (low v % 2) 1) _ _ (λ t h. absurd (cc)) (λ t h. absurd (cc))
   caused CommitPending e b = at_cond Caused (eqb (low v) 0) _ _ (λ t h. absurd (cc)) (λ t h. absurd (cc))
   caused CommitWrite e b = at_cond Caused (makes_room m v) _ _ (λ t h. absurd (cc)) (λ t h. absurd (cc))
-  caused CommitRaise e b = λ h. absurd (cc)
-  caused ArmPending e b = λ h. absurd (cc)
-  caused ArmMask e b = λ h. absurd (cc)
   caused ArmWrite e b = at_cond Caused (eqb (low v) (8 * m.read)) _ _ (λ t. at_cond Caused (eqb m.want 0) _ _ (λ u h. absurd (cc)) (λ u h. absurd (cc))) (λ t h. absurd (cc))
   caused ArmRead e b = at_cond Caused (finds_room m v) _ _ (λ t h. absurd (cc)) (λ t h. absurd (cc))
   caused ArmMark e b = at_cond Caused (eqb v 0) _ _ (λ t h. absurd (cc)) (λ t h. absurd (cc))
   caused ArmUndoMask e b = at_cond Caused (eqb m.want 0) _ _ (λ t h. absurd (cc)) (λ t h. absurd (cc))
-  caused ArmUndoPending e b = λ h. absurd (cc)
   caused PollSignal e b = at_cond Caused (eqb v 0) _ _ (λ t h. absurd (cc)) (λ t h. absurd (cc))
   caused PollMask e b = at_cond Caused (eqb m.want 0) _ _ (λ t h. absurd (cc)) (λ t h. absurd (cc))
-  caused PollPending e b = λ h. absurd (cc)
-  caused MarkStore e b = λ h. absurd (cc)
-  caused MarkRaise e b = λ h. absurd (cc)
   caused PeerMark e b = at_cond Caused (eqb v 0) _ _ (λ t h. absurd (cc)) (λ t h. absurd (cc))
+  caused _ e b = λ h. absurd (cc)
 
   cond_no : {A : Type 0} (b : Bool) (x y : A) → b ≡ false → cond b x y ≡ y
   cond_no b x y h = ap (λ c. cond c x y) h

@@ -123,25 +123,18 @@ module _ (how : Ending) (a b c : Bool) (t r q l k : ℕ) (awake : a ≡ true →
   halted y = record { arming = λ h. absurd (cc); looking = λ h. absurd (cc); asleep = λ h. absurd (awake h); unmarked = λ h. absurd (cc); first = λ h. absurd (cc); copying = λ h. absurd (cc); wanting = (λ h. absurd (cc), λ h. absurd (cc)); broken = λ _. refl; stopped = λ _. y }
 
   plain : (st : Stage) → is_plain st ≡ true → b ≡ false → (is_broken how ≡ true → ⊥) → Staged st how a b c t r q l k
-  plain SendRead p u n = record { arming = λ h. absurd (cc); looking = λ h. absurd (cc); asleep = λ h. absurd (awake h); unmarked = λ h. u; first = λ h. absurd (cc); copying = λ h. absurd (cc); wanting = (λ h. absurd (cc), λ h. absurd (cc)); broken = λ h. absurd (n h); stopped = λ h. absurd (cc) }
-  plain SendCell p u n = record { arming = λ h. absurd (cc); looking = λ h. absurd (cc); asleep = λ h. absurd (awake h); unmarked = λ h. u; first = λ h. absurd (cc); copying = λ h. absurd (cc); wanting = (λ h. absurd (cc), λ h. absurd (cc)); broken = λ h. absurd (n h); stopped = λ h. absurd (cc) }
-  plain SendWrite p u n = record { arming = λ h. absurd (cc); looking = λ h. absurd (cc); asleep = λ h. absurd (awake h); unmarked = λ h. u; first = λ h. absurd (cc); copying = λ h. absurd (cc); wanting = (λ h. absurd (cc), λ h. absurd (cc)); broken = λ h. absurd (n h); stopped = λ h. absurd (cc) }
-  plain SendMask p u n = record { arming = λ h. absurd (cc); looking = λ h. absurd (cc); asleep = λ h. absurd (awake h); unmarked = λ h. u; first = λ h. absurd (cc); copying = λ h. absurd (cc); wanting = (λ h. absurd (cc), λ h. absurd (cc)); broken = λ h. absurd (n h); stopped = λ h. absurd (cc) }
-  plain SendLook p u n = record { arming = λ h. absurd (cc); looking = λ h. absurd (cc); asleep = λ h. absurd (awake h); unmarked = λ h. u; first = λ h. absurd (cc); copying = λ h. absurd (cc); wanting = (λ h. absurd (cc), λ h. absurd (cc)); broken = λ h. absurd (n h); stopped = λ h. absurd (cc) }
-  plain SendRaise p u n = record { arming = λ h. absurd (cc); looking = λ h. absurd (cc); asleep = λ h. absurd (awake h); unmarked = λ h. u; first = λ h. absurd (cc); copying = λ h. absurd (cc); wanting = (λ h. absurd (cc), λ h. absurd (cc)); broken = λ h. absurd (n h); stopped = λ h. absurd (cc) }
-  plain TakeWrite p u n = record { arming = λ h. absurd (cc); looking = λ h. absurd (cc); asleep = λ h. absurd (awake h); unmarked = λ h. u; first = λ h. absurd (cc); copying = λ h. absurd (cc); wanting = (λ h. absurd (cc), λ h. absurd (cc)); broken = λ h. absurd (n h); stopped = λ h. absurd (cc) }
-  plain CommitRead p u n = record { arming = λ h. absurd (cc); looking = λ h. absurd (cc); asleep = λ h. absurd (awake h); unmarked = λ h. u; first = λ h. absurd (cc); copying = λ h. absurd (cc); wanting = (λ h. absurd (cc), λ h. absurd (cc)); broken = λ h. absurd (n h); stopped = λ h. absurd (cc) }
-  plain CommitFeature p u n = record { arming = λ h. absurd (cc); looking = λ h. absurd (cc); asleep = λ h. absurd (awake h); unmarked = λ h. u; first = λ h. absurd (cc); copying = λ h. absurd (cc); wanting = (λ h. absurd (cc), λ h. absurd (cc)); broken = λ h. absurd (n h); stopped = λ h. absurd (cc) }
-  plain CommitPending p u n = record { arming = λ h. absurd (cc); looking = λ h. absurd (cc); asleep = λ h. absurd (awake h); unmarked = λ h. u; first = λ h. absurd (cc); copying = λ h. absurd (cc); wanting = (λ h. absurd (cc), λ h. absurd (cc)); broken = λ h. absurd (n h); stopped = λ h. absurd (cc) }
-  plain CommitWrite p u n = record { arming = λ h. absurd (cc); looking = λ h. absurd (cc); asleep = λ h. absurd (awake h); unmarked = λ h. u; first = λ h. absurd (cc); copying = λ h. absurd (cc); wanting = (λ h. absurd (cc), λ h. absurd (cc)); broken = λ h. absurd (n h); stopped = λ h. absurd (cc) }
-  plain CommitRaise p u n = record { arming = λ h. absurd (cc); looking = λ h. absurd (cc); asleep = λ h. absurd (awake h); unmarked = λ h. u; first = λ h. absurd (cc); copying = λ h. absurd (cc); wanting = (λ h. absurd (cc), λ h. absurd (cc)); broken = λ h. absurd (n h); stopped = λ h. absurd (cc) }
-  plain PollSignal p u n = record { arming = λ h. absurd (cc); looking = λ h. absurd (cc); asleep = λ h. absurd (awake h); unmarked = λ h. u; first = λ h. absurd (cc); copying = λ h. absurd (cc); wanting = (λ h. absurd (cc), λ h. absurd (cc)); broken = λ h. absurd (n h); stopped = λ h. absurd (cc) }
-  plain PollMask p u n = record { arming = λ h. absurd (cc); looking = λ h. absurd (cc); asleep = λ h. absurd (awake h); unmarked = λ h. u; first = λ h. absurd (cc); copying = λ h. absurd (cc); wanting = (λ h. absurd (cc), λ h. absurd (cc)); broken = λ h. absurd (n h); stopped = λ h. absurd (cc) }
-  plain PollPending p u n = record { arming = λ h. absurd (cc); looking = λ h. absurd (cc); asleep = λ h. absurd (awake h); unmarked = λ h. u; first = λ h. absurd (cc); copying = λ h. absurd (cc); wanting = (λ h. absurd (cc), λ h. absurd (cc)); broken = λ h. absurd (n h); stopped = λ h. absurd (cc) }
-  plain MarkStore p u n = record { arming = λ h. absurd (cc); looking = λ h. absurd (cc); asleep = λ h. absurd (awake h); unmarked = λ h. u; first = λ h. absurd (cc); copying = λ h. absurd (cc); wanting = (λ h. absurd (cc), λ h. absurd (cc)); broken = λ h. absurd (n h); stopped = λ h. absurd (cc) }
-  plain MarkRaise p u n = record { arming = λ h. absurd (cc); looking = λ h. absurd (cc); asleep = λ h. absurd (awake h); unmarked = λ h. u; first = λ h. absurd (cc); copying = λ h. absurd (cc); wanting = (λ h. absurd (cc), λ h. absurd (cc)); broken = λ h. absurd (n h); stopped = λ h. absurd (cc) }
-  plain PeerMark p u n = record { arming = λ h. absurd (cc); looking = λ h. absurd (cc); asleep = λ h. absurd (awake h); unmarked = λ h. u; first = λ h. absurd (cc); copying = λ h. absurd (cc); wanting = (λ h. absurd (cc), λ h. absurd (cc)); broken = λ h. absurd (n h); stopped = λ h. absurd (cc) }
-  plain _ p u n = absurd (cc)
+  plain Idle p u n = absurd (cc)
+  plain Stopped p u n = absurd (cc)
+  plain TakeFirst p u n = absurd (cc)
+  plain TakeCell p u n = absurd (cc)
+  plain ArmPending p u n = absurd (cc)
+  plain ArmMask p u n = absurd (cc)
+  plain ArmWrite p u n = absurd (cc)
+  plain ArmRead p u n = absurd (cc)
+  plain ArmMark p u n = absurd (cc)
+  plain ArmUndoMask p u n = absurd (cc)
+  plain ArmUndoPending p u n = absurd (cc)
+  plain _ p u n = record { arming = λ h. absurd (cc); looking = λ h. absurd (cc); asleep = λ h. absurd (awake h); unmarked = λ h. u; first = λ h. absurd (cc); copying = λ h. absurd (cc); wanting = (λ h. absurd (cc), λ h. absurd (cc)); broken = λ h. absurd (n h); stopped = λ h. absurd (cc) }
 
   armed : (st : Stage) → st ≡ st → (is_arming_at st ≡ true → t ≡ r) → (is_looking_at st ≡ true → c ≡ false) → (st ≡ ArmPending → 0 < q) × (st ≡ ArmRead → 0 < q) → b ≡ false → (is_broken how ≡ true → ⊥) → is_arming_at st ≡ true → Staged st how a b c t r q l k
   armed st e x y z u n i = record { arming = x; looking = y; asleep = λ h. absurd (awake h); unmarked = λ h. u; first = λ h. absurd (let w : is_arming_at TakeFirst ≡ true = subst (λ (s : Stage). is_arming_at s ≡ true) h i in cc); copying = λ h. absurd (let w : is_arming_at TakeCell ≡ true = subst (λ (s : Stage). is_arming_at s ≡ true) h i in cc); wanting = z; broken = λ h. absurd (n h); stopped = λ h. absurd (let w : is_arming_at Stopped ≡ true = subst (λ (s : Stage). is_arming_at s ≡ true) h i in cc) }
@@ -235,31 +228,22 @@ module _ (m : EndMachine) (v : ℕ) (s : IsSound m) where
   left_less Stopped e b = absurd (cc)
   left_less SendRead e b = at_cond (λ (k : EndMachine). steps_left k < left_at SendRead m) (is_index m.cells v) _ _ (λ t. at_cond (λ (k : EndMachine). steps_left k < left_at SendRead m) (leb (free m.cells (cell_of v) m.write) (m.len + 1)) _ _ (λ u. omega (arith, s.cells)) (λ u. omega (arith, s.cells))) (λ t. omega (arith, s.cells))
   left_less SendCell e b = at_cond (λ (k : EndMachine). steps_left k < left_at SendCell m) (ltb m.done m.len) _ _ (λ t. (let more : m.done < m.len = grind (arith, nat_tests) in subst (λ (x : Stage). left_at x (record m { done = m.done + 1 }) < m.len - m.done + 5) (sym e) (omega arith))) (λ t. omega (arith, s.cells))
-  left_less SendWrite e b = omega (arith, s.cells)
   left_less SendMask e b = at_cond (λ (k : EndMachine). steps_left k < left_at SendMask m) (eqb (low v) 0) _ _ (λ t. omega (arith, s.cells)) (λ t. omega (arith, s.cells))
   left_less SendLook e b = at_cond (λ (k : EndMachine). steps_left k < left_at SendLook m) (eqb (low v) (8 * m.old)) _ _ (λ t. omega (arith, s.cells)) (λ t. omega (arith, s.cells))
-  left_less SendRaise e b = omega (arith, s.cells)
   left_less TakeWrite e b = at_cond (λ (k : EndMachine). steps_left k < left_at TakeWrite m) (is_index m.cells v) _ _ (λ t. at_cond (λ (k : EndMachine). steps_left k < left_at TakeWrite m) (eqb (cell_of v) m.read) _ _ (λ u. omega (arith, s.cells)) (λ u. omega (arith, s.cells))) (λ t. omega (arith, s.cells))
   left_less TakeFirst e b = at_cond (λ (k : EndMachine). steps_left k < left_at TakeFirst m) (leb 2 (len8_of v) && ltb (len8_of v) (used m.cells m.read m.seen)) _ _ (λ t. at_cond (λ (k : EndMachine). steps_left k < left_at TakeFirst m) (leb 2 (offset8_of v) && leb (offset8_of v) (len8_of v)) _ _ (λ u. (let few = used_below m.cells m.read m.seen s.read s.seen in let short : len8_of v < used m.cells m.read m.seen = (let x = and_right (leb 2 (len8_of v)) _ t in grind (arith, nat_tests)) in omega arith)) (λ u. omega (arith, s.cells))) (λ t. omega (arith, s.cells))
   left_less TakeCell e b = at_cond (λ (k : EndMachine). steps_left k < left_at TakeCell m) (ltb (m.done + 1) m.len) _ _ (λ t. (let more : m.done + 1 < m.len = grind (arith, nat_tests) in subst (λ (x : Stage). left_at x (record m { done = m.done + 1 }) < m.len - m.done) (sym e) (omega arith))) (λ t. (let busy : m.done < m.len = (s.copying e).1 in omega arith))
-  left_less CommitRead e b = omega (arith, s.cells)
   left_less CommitFeature e b = at_cond (λ (k : EndMachine). steps_left k < left_at CommitFeature m) (eqb (low v % 2) 1) _ _ (λ t. omega (arith, s.cells)) (λ t. omega (arith, s.cells))
   left_less CommitPending e b = at_cond (λ (k : EndMachine). steps_left k < left_at CommitPending m) (eqb (low v) 0) _ _ (λ t. omega (arith, s.cells)) (λ t. omega (arith, s.cells))
   left_less CommitWrite e b = at_cond (λ (k : EndMachine). steps_left k < left_at CommitWrite m) (makes_room m v) _ _ (λ t. omega (arith, s.cells)) (λ t. omega (arith, s.cells))
-  left_less CommitRaise e b = omega (arith, s.cells)
-  left_less ArmPending e b = omega (arith, s.cells)
-  left_less ArmMask e b = omega (arith, s.cells)
   left_less ArmWrite e b = at_cond (λ (k : EndMachine). steps_left k < left_at ArmWrite m) (eqb (low v) (8 * m.read)) _ _ (λ t. at_cond (λ (k : EndMachine). steps_left k < left_at ArmWrite m) (eqb m.want 0) _ _ (λ u. omega (arith, s.cells)) (λ u. omega (arith, s.cells))) (λ t. omega (arith, s.cells))
   left_less ArmRead e b = at_cond (λ (k : EndMachine). steps_left k < left_at ArmRead m) (finds_room m v) _ _ (λ t. omega (arith, s.cells)) (λ t. omega (arith, s.cells))
   left_less ArmMark e b = at_cond (λ (k : EndMachine). steps_left k < left_at ArmMark m) (eqb v 0) _ _ (λ t. omega (arith, s.cells)) (λ t. omega (arith, s.cells))
   left_less ArmUndoMask e b = at_cond (λ (k : EndMachine). steps_left k < left_at ArmUndoMask m) (eqb m.want 0) _ _ (λ t. omega (arith, s.cells)) (λ t. omega (arith, s.cells))
-  left_less ArmUndoPending e b = omega (arith, s.cells)
   left_less PollSignal e b = at_cond (λ (k : EndMachine). steps_left k < left_at PollSignal m) (eqb v 0) _ _ (λ t. omega (arith, s.cells)) (λ t. omega (arith, s.cells))
   left_less PollMask e b = at_cond (λ (k : EndMachine). steps_left k < left_at PollMask m) (eqb m.want 0) _ _ (λ t. omega (arith, s.cells)) (λ t. omega (arith, s.cells))
-  left_less PollPending e b = omega (arith, s.cells)
-  left_less MarkStore e b = omega (arith, s.cells)
-  left_less MarkRaise e b = omega (arith, s.cells)
   left_less PeerMark e b = at_cond (λ (k : EndMachine). steps_left k < left_at PeerMark m) (eqb v 0) _ _ (λ t. omega (arith, s.cells)) (λ t. omega (arith, s.cells))
+  left_less _ e b = omega (arith, s.cells)
 
   pub fed_nearer : is_busy_at m.stage ≡ true → steps_left (fed m v) < steps_left m
   fed_nearer b = left_less m.stage refl b
@@ -269,31 +253,22 @@ module _ (m : EndMachine) (v : ℕ) (s : IsSound m) where
   made_more Stopped e b = absurd (cc)
   made_more SendRead e b = at_cond (λ (k : EndMachine). made_at SendRead m + 1 ≤ made_at k.stage k) (is_index m.cells v) _ _ (λ t. at_cond (λ (k : EndMachine). made_at SendRead m + 1 ≤ made_at k.stage k) (leb (free m.cells (cell_of v) m.write) (m.len + 1)) _ _ (λ u. omega arith) (λ u. omega arith)) (λ t. omega arith)
   made_more SendCell e b = at_cond (λ (k : EndMachine). made_at SendCell m + 1 ≤ made_at k.stage k) (ltb m.done m.len) _ _ (λ t. subst (λ (x : Stage). m.done + 1 + 1 ≤ made_at x (record m { done = m.done + 1 })) (sym e) (omega arith)) (λ t. (let over : m.len ≤ m.done = grind (arith, nat_tests) in omega (arith, s.done)))
-  made_more SendWrite e b = omega arith
   made_more SendMask e b = at_cond (λ (k : EndMachine). made_at SendMask m + 1 ≤ made_at k.stage k) (eqb (low v) 0) _ _ (λ t. omega arith) (λ t. omega arith)
   made_more SendLook e b = at_cond (λ (k : EndMachine). made_at SendLook m + 1 ≤ made_at k.stage k) (eqb (low v) (8 * m.old)) _ _ (λ t. omega arith) (λ t. omega arith)
-  made_more SendRaise e b = omega arith
   made_more TakeWrite e b = at_cond (λ (k : EndMachine). made_at TakeWrite m + 1 ≤ made_at k.stage k) (is_index m.cells v) _ _ (λ t. at_cond (λ (k : EndMachine). made_at TakeWrite m + 1 ≤ made_at k.stage k) (eqb (cell_of v) m.read) _ _ (λ u. omega arith) (λ u. omega arith)) (λ t. omega arith)
   made_more TakeFirst e b = at_cond (λ (k : EndMachine). made_at TakeFirst m + 1 ≤ made_at k.stage k) (leb 2 (len8_of v) && ltb (len8_of v) (used m.cells m.read m.seen)) _ _ (λ t. at_cond (λ (k : EndMachine). made_at TakeFirst m + 1 ≤ made_at k.stage k) (leb 2 (offset8_of v) && leb (offset8_of v) (len8_of v)) _ _ (λ u. omega arith) (λ u. omega arith)) (λ t. omega arith)
   made_more TakeCell e b = at_cond (λ (k : EndMachine). made_at TakeCell m + 1 ≤ made_at k.stage k) (ltb (m.done + 1) m.len) _ _ (λ t. subst (λ (x : Stage). m.done + 1 + 1 ≤ made_at x (record m { done = m.done + 1 })) (sym e) (omega arith)) (λ t. (let busy : m.done < m.len = (s.copying e).1 in omega arith))
-  made_more CommitRead e b = omega arith
   made_more CommitFeature e b = at_cond (λ (k : EndMachine). made_at CommitFeature m + 1 ≤ made_at k.stage k) (eqb (low v % 2) 1) _ _ (λ t. omega arith) (λ t. omega arith)
   made_more CommitPending e b = at_cond (λ (k : EndMachine). made_at CommitPending m + 1 ≤ made_at k.stage k) (eqb (low v) 0) _ _ (λ t. omega arith) (λ t. omega arith)
   made_more CommitWrite e b = at_cond (λ (k : EndMachine). made_at CommitWrite m + 1 ≤ made_at k.stage k) (makes_room m v) _ _ (λ t. omega arith) (λ t. omega arith)
-  made_more CommitRaise e b = omega arith
-  made_more ArmPending e b = omega arith
-  made_more ArmMask e b = omega arith
   made_more ArmWrite e b = at_cond (λ (k : EndMachine). made_at ArmWrite m + 1 ≤ made_at k.stage k) (eqb (low v) (8 * m.read)) _ _ (λ t. at_cond (λ (k : EndMachine). made_at ArmWrite m + 1 ≤ made_at k.stage k) (eqb m.want 0) _ _ (λ u. omega arith) (λ u. omega arith)) (λ t. omega arith)
   made_more ArmRead e b = at_cond (λ (k : EndMachine). made_at ArmRead m + 1 ≤ made_at k.stage k) (finds_room m v) _ _ (λ t. omega arith) (λ t. omega arith)
   made_more ArmMark e b = at_cond (λ (k : EndMachine). made_at ArmMark m + 1 ≤ made_at k.stage k) (eqb v 0) _ _ (λ t. omega arith) (λ t. omega arith)
   made_more ArmUndoMask e b = at_cond (λ (k : EndMachine). made_at ArmUndoMask m + 1 ≤ made_at k.stage k) (eqb m.want 0) _ _ (λ t. omega arith) (λ t. omega arith)
-  made_more ArmUndoPending e b = omega arith
   made_more PollSignal e b = at_cond (λ (k : EndMachine). made_at PollSignal m + 1 ≤ made_at k.stage k) (eqb v 0) _ _ (λ t. omega arith) (λ t. omega arith)
   made_more PollMask e b = at_cond (λ (k : EndMachine). made_at PollMask m + 1 ≤ made_at k.stage k) (eqb m.want 0) _ _ (λ t. omega arith) (λ t. omega arith)
-  made_more PollPending e b = omega arith
-  made_more MarkStore e b = omega arith
-  made_more MarkRaise e b = omega arith
   made_more PeerMark e b = at_cond (λ (k : EndMachine). made_at PeerMark m + 1 ≤ made_at k.stage k) (eqb v 0) _ _ (λ t. omega arith) (λ t. omega arith)
+  made_more _ e b = omega arith
 
   pub fed_made : is_busy_at m.stage ≡ true → made_at m.stage m + 1 ≤ made_at (fed m v).stage (fed m v)
   fed_made b = made_more m.stage refl b

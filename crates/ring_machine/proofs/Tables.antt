@@ -17,6 +17,7 @@ use Rattle.ring_machine.specs.Steps.{IsSound, fed_at, next_at, ends, is_busy_at,
 use Rattle.ring_machine.specs.Loops.{is_unseen_at, is_polling_at, is_given_at}
 use Rattle.ring_machine.specs.States.{copied_at, copied_after, sent_after, sent_while, got_after, past_after, past_while, past_by, sent_by, got_by, stored}
 use Rattle.ring_machine.specs.Endings.{is_committed, is_dozed, is_marked}
+use Rattle.ring_machine.specs.Moves.{Lists, Moves, write_at, read_at, start_at, asleep_at, marked_at, Form, is_formed}
 use Rattle.ring_machine.proofs.Sound.{at_cond, at_both, and_left, and_right, no_true}
 
 -- a step that isn't a load of a take leaves no take's loop
@@ -25,43 +26,25 @@ none_copied m v buf Idle e n = rw e refl
 none_copied m v buf Stopped e n = rw e refl
 none_copied m v buf SendRead e n = at_cond (λ (k : EndMachine). [] ≡ copied_at k.stage (take k.done buf)) (is_index m.cells v) _ _ (λ t. at_cond (λ (k : EndMachine). [] ≡ copied_at k.stage (take k.done buf)) (leb (free m.cells (cell_of v) m.write) (m.len + 1)) _ _ (λ u. refl) (λ u. refl)) (λ t. refl)
 none_copied m v buf SendCell e n = at_cond (λ (k : EndMachine). [] ≡ copied_at k.stage (take k.done buf)) (ltb m.done m.len) _ _ (λ t. rw e refl) (λ t. refl)
-none_copied m v buf SendWrite e n = refl
 none_copied m v buf SendMask e n = at_cond (λ (k : EndMachine). [] ≡ copied_at k.stage (take k.done buf)) (eqb (low v) 0) _ _ (λ t. refl) (λ t. refl)
 none_copied m v buf SendLook e n = at_cond (λ (k : EndMachine). [] ≡ copied_at k.stage (take k.done buf)) (eqb (low v) (8 * m.old)) _ _ (λ t. refl) (λ t. refl)
-none_copied m v buf SendRaise e n = refl
 none_copied m v buf TakeWrite e n = at_cond (λ (k : EndMachine). [] ≡ copied_at k.stage (take k.done buf)) (is_index m.cells v) _ _ (λ t. at_cond (λ (k : EndMachine). [] ≡ copied_at k.stage (take k.done buf)) (eqb (cell_of v) m.read) _ _ (λ u. refl) (λ u. refl)) (λ t. refl)
 none_copied m v buf TakeFirst e n = absurd (cc)
 none_copied m v buf TakeCell e n = absurd (cc)
-none_copied m v buf CommitRead e n = refl
 none_copied m v buf CommitFeature e n = at_cond (λ (k : EndMachine). [] ≡ copied_at k.stage (take k.done buf)) (eqb (low v % 2) 1) _ _ (λ t. refl) (λ t. refl)
 none_copied m v buf CommitPending e n = at_cond (λ (k : EndMachine). [] ≡ copied_at k.stage (take k.done buf)) (eqb (low v) 0) _ _ (λ t. refl) (λ t. refl)
 none_copied m v buf CommitWrite e n = at_cond (λ (k : EndMachine). [] ≡ copied_at k.stage (take k.done buf)) (makes_room m v) _ _ (λ t. refl) (λ t. refl)
-none_copied m v buf CommitRaise e n = refl
-none_copied m v buf ArmPending e n = refl
-none_copied m v buf ArmMask e n = refl
 none_copied m v buf ArmWrite e n = at_cond (λ (k : EndMachine). [] ≡ copied_at k.stage (take k.done buf)) (eqb (low v) (8 * m.read)) _ _ (λ t. at_cond (λ (k : EndMachine). [] ≡ copied_at k.stage (take k.done buf)) (eqb m.want 0) _ _ (λ u. refl) (λ u. refl)) (λ t. refl)
 none_copied m v buf ArmRead e n = at_cond (λ (k : EndMachine). [] ≡ copied_at k.stage (take k.done buf)) (finds_room m v) _ _ (λ t. refl) (λ t. refl)
 none_copied m v buf ArmMark e n = at_cond (λ (k : EndMachine). [] ≡ copied_at k.stage (take k.done buf)) (eqb v 0) _ _ (λ t. refl) (λ t. refl)
 none_copied m v buf ArmUndoMask e n = at_cond (λ (k : EndMachine). [] ≡ copied_at k.stage (take k.done buf)) (eqb m.want 0) _ _ (λ t. refl) (λ t. refl)
-none_copied m v buf ArmUndoPending e n = refl
 none_copied m v buf PollSignal e n = at_cond (λ (k : EndMachine). [] ≡ copied_at k.stage (take k.done buf)) (eqb v 0) _ _ (λ t. refl) (λ t. refl)
 none_copied m v buf PollMask e n = at_cond (λ (k : EndMachine). [] ≡ copied_at k.stage (take k.done buf)) (eqb m.want 0) _ _ (λ t. refl) (λ t. refl)
-none_copied m v buf PollPending e n = refl
-none_copied m v buf MarkStore e n = refl
-none_copied m v buf MarkRaise e n = refl
 none_copied m v buf PeerMark e n = at_cond (λ (k : EndMachine). [] ≡ copied_at k.stage (take k.done buf)) (eqb v 0) _ _ (λ t. refl) (λ t. refl)
+none_copied m v buf _ e n = refl
 
 pub copied_by : (m : EndMachine) (v : ℕ) (buf : List ℕ) → IsSound m → length buf ≡ m.cells → (st : Stage) → m.stage ≡ st
     → copied_after st (fed_at st m v) (copied_at st (take m.done buf)) v ≡ copied_at (fed_at st m v).stage (take (fed_at st m v).done (stored (is_copying_at st) buf m.done v))
-copied_by m v buf s w Idle e = none_copied m v buf Idle e refl
-copied_by m v buf s w Stopped e = none_copied m v buf Stopped e refl
-copied_by m v buf s w SendRead e = none_copied m v buf SendRead e refl
-copied_by m v buf s w SendCell e = none_copied m v buf SendCell e refl
-copied_by m v buf s w SendWrite e = none_copied m v buf SendWrite e refl
-copied_by m v buf s w SendMask e = none_copied m v buf SendMask e refl
-copied_by m v buf s w SendLook e = none_copied m v buf SendLook e refl
-copied_by m v buf s w SendRaise e = none_copied m v buf SendRaise e refl
-copied_by m v buf s w TakeWrite e = none_copied m v buf TakeWrite e refl
 copied_by m v buf s w TakeFirst e =
     let P : EndMachine → Type 0 = λ k. copied_at k.stage (v ∷ []) ≡ copied_at k.stage (take k.done (set buf m.done v)) in
     let here : m.done ≡ 0 = s.first e in
@@ -71,91 +54,32 @@ copied_by m v buf s w TakeCell e =
     let P : EndMachine → Type 0 = λ k. copied_at k.stage (take m.done buf ++ v ∷ []) ≡ copied_at k.stage (take k.done (set buf m.done v)) in
     let room : m.done < length buf = omega (arith, s.len, s.done) in
     at_cond P (ltb (m.done + 1) m.len) _ _ (λ t. ap (copied_at m.stage) (rw add-one (sym (take-suc-set buf m.done v room)))) (λ t. refl)
-copied_by m v buf s w CommitRead e = none_copied m v buf CommitRead e refl
-copied_by m v buf s w CommitFeature e = none_copied m v buf CommitFeature e refl
-copied_by m v buf s w CommitPending e = none_copied m v buf CommitPending e refl
-copied_by m v buf s w CommitWrite e = none_copied m v buf CommitWrite e refl
-copied_by m v buf s w CommitRaise e = none_copied m v buf CommitRaise e refl
-copied_by m v buf s w ArmPending e = none_copied m v buf ArmPending e refl
-copied_by m v buf s w ArmMask e = none_copied m v buf ArmMask e refl
-copied_by m v buf s w ArmWrite e = none_copied m v buf ArmWrite e refl
-copied_by m v buf s w ArmRead e = none_copied m v buf ArmRead e refl
-copied_by m v buf s w ArmMark e = none_copied m v buf ArmMark e refl
-copied_by m v buf s w ArmUndoMask e = none_copied m v buf ArmUndoMask e refl
-copied_by m v buf s w ArmUndoPending e = none_copied m v buf ArmUndoPending e refl
-copied_by m v buf s w PollSignal e = none_copied m v buf PollSignal e refl
-copied_by m v buf s w PollMask e = none_copied m v buf PollMask e refl
-copied_by m v buf s w PollPending e = none_copied m v buf PollPending e refl
-copied_by m v buf s w MarkStore e = none_copied m v buf MarkStore e refl
-copied_by m v buf s w MarkRaise e = none_copied m v buf MarkRaise e refl
-copied_by m v buf s w PeerMark e = none_copied m v buf PeerMark e refl
+copied_by m v buf s w _ e = none_copied m v buf _ e refl
 
 pub fed_cells : (m : EndMachine) (v : ℕ) (st : Stage) → (fed_at st m v).cells ≡ m.cells
-fed_cells m v Idle = refl
-fed_cells m v Stopped = refl
 fed_cells m v SendRead = at_cond (λ (k : EndMachine). k.cells ≡ m.cells) (is_index m.cells v) _ _ (λ t. at_cond (λ (k : EndMachine). k.cells ≡ m.cells) (leb (free m.cells (cell_of v) m.write) (m.len + 1)) _ _ (λ u. refl) (λ u. refl)) (λ t. refl)
 fed_cells m v SendCell = at_cond (λ (k : EndMachine). k.cells ≡ m.cells) (ltb m.done m.len) _ _ (λ t. refl) (λ t. refl)
-fed_cells m v SendWrite = refl
 fed_cells m v SendMask = at_cond (λ (k : EndMachine). k.cells ≡ m.cells) (eqb (low v) 0) _ _ (λ t. refl) (λ t. refl)
 fed_cells m v SendLook = at_cond (λ (k : EndMachine). k.cells ≡ m.cells) (eqb (low v) (8 * m.old)) _ _ (λ t. refl) (λ t. refl)
-fed_cells m v SendRaise = refl
 fed_cells m v TakeWrite = at_cond (λ (k : EndMachine). k.cells ≡ m.cells) (is_index m.cells v) _ _ (λ t. at_cond (λ (k : EndMachine). k.cells ≡ m.cells) (eqb (cell_of v) m.read) _ _ (λ u. refl) (λ u. refl)) (λ t. refl)
 fed_cells m v TakeFirst = at_cond (λ (k : EndMachine). k.cells ≡ m.cells) (leb 2 (len8_of v) && ltb (len8_of v) (used m.cells m.read m.seen)) _ _ (λ t. at_cond (λ (k : EndMachine). k.cells ≡ m.cells) (leb 2 (offset8_of v) && leb (offset8_of v) (len8_of v)) _ _ (λ u. refl) (λ u. refl)) (λ t. refl)
 fed_cells m v TakeCell = at_cond (λ (k : EndMachine). k.cells ≡ m.cells) (ltb (m.done + 1) m.len) _ _ (λ t. refl) (λ t. refl)
-fed_cells m v CommitRead = refl
 fed_cells m v CommitFeature = at_cond (λ (k : EndMachine). k.cells ≡ m.cells) (eqb (low v % 2) 1) _ _ (λ t. refl) (λ t. refl)
 fed_cells m v CommitPending = at_cond (λ (k : EndMachine). k.cells ≡ m.cells) (eqb (low v) 0) _ _ (λ t. refl) (λ t. refl)
 fed_cells m v CommitWrite = at_cond (λ (k : EndMachine). k.cells ≡ m.cells) (makes_room m v) _ _ (λ t. refl) (λ t. refl)
-fed_cells m v CommitRaise = refl
-fed_cells m v ArmPending = refl
-fed_cells m v ArmMask = refl
 fed_cells m v ArmWrite = at_cond (λ (k : EndMachine). k.cells ≡ m.cells) (eqb (low v) (8 * m.read)) _ _ (λ t. at_cond (λ (k : EndMachine). k.cells ≡ m.cells) (eqb m.want 0) _ _ (λ u. refl) (λ u. refl)) (λ t. refl)
 fed_cells m v ArmRead = at_cond (λ (k : EndMachine). k.cells ≡ m.cells) (finds_room m v) _ _ (λ t. refl) (λ t. refl)
 fed_cells m v ArmMark = at_cond (λ (k : EndMachine). k.cells ≡ m.cells) (eqb v 0) _ _ (λ t. refl) (λ t. refl)
 fed_cells m v ArmUndoMask = at_cond (λ (k : EndMachine). k.cells ≡ m.cells) (eqb m.want 0) _ _ (λ t. refl) (λ t. refl)
-fed_cells m v ArmUndoPending = refl
 fed_cells m v PollSignal = at_cond (λ (k : EndMachine). k.cells ≡ m.cells) (eqb v 0) _ _ (λ t. refl) (λ t. refl)
 fed_cells m v PollMask = at_cond (λ (k : EndMachine). k.cells ≡ m.cells) (eqb m.want 0) _ _ (λ t. refl) (λ t. refl)
-fed_cells m v PollPending = refl
-fed_cells m v MarkStore = refl
-fed_cells m v MarkRaise = refl
 fed_cells m v PeerMark = at_cond (λ (k : EndMachine). k.cells ≡ m.cells) (eqb v 0) _ _ (λ t. refl) (λ t. refl)
+fed_cells m v _ = refl
 
 pub busy_next : (m : EndMachine) (p : List ℕ) (st : Stage) → is_busy_at st ≡ true → (op : Op) × (next_at st m p ≡ Some op)
 busy_next m p Idle b = absurd (cc)
 busy_next m p Stopped b = absurd (cc)
-busy_next m p SendRead b = (_, refl)
-busy_next m p SendCell b = (_, refl)
-busy_next m p SendWrite b = (_, refl)
-busy_next m p SendMask b = (_, refl)
-busy_next m p SendLook b = (_, refl)
-busy_next m p SendRaise b = (_, refl)
-busy_next m p TakeWrite b = (_, refl)
-busy_next m p TakeFirst b = (_, refl)
-busy_next m p TakeCell b = (_, refl)
-busy_next m p CommitRead b = (_, refl)
-busy_next m p CommitFeature b = (_, refl)
-busy_next m p CommitPending b = (_, refl)
-busy_next m p CommitWrite b = (_, refl)
-busy_next m p CommitRaise b = (_, refl)
-busy_next m p ArmPending b = (_, refl)
-busy_next m p ArmMask b = (_, refl)
-busy_next m p ArmWrite b = (_, refl)
-busy_next m p ArmRead b = (_, refl)
-busy_next m p ArmMark b = (_, refl)
-busy_next m p ArmUndoMask b = (_, refl)
-busy_next m p ArmUndoPending b = (_, refl)
-busy_next m p PollSignal b = (_, refl)
-busy_next m p PollMask b = (_, refl)
-busy_next m p PollPending b = (_, refl)
-busy_next m p MarkStore b = (_, refl)
-busy_next m p MarkRaise b = (_, refl)
-busy_next m p PeerMark b = (_, refl)
-
--- the lists and the past, while a call is under way and after it
-pub record Lists (call : EndCall) (sent got : List (List ℕ)) (past : List (Event (List ℕ))) (p : List ℕ) (m : EndMachine) (buf : List ℕ) (sent' got' : List (List ℕ)) (past' : List (Event (List ℕ))) : Type 0 where
-  pub busy : is_busy_at m.stage ≡ true → (call_at m.stage ≡ call) × (sent' ≡ sent_while m.stage sent p) × (got' ≡ got) × (past' ≡ past_while m.stage m past p)
-  pub ended : is_busy_at m.stage ≡ false → (call_by m.ended ≡ call) × (sent' ≡ sent_by m sent p) × (got' ≡ got_by m got buf) × (past' ≡ past_by m past p buf)
+busy_next m p _ b = (_, refl)
 
 module _ (sent got : List (List ℕ)) (past : List (Event (List ℕ))) (p : List ℕ) (buf : List ℕ) where
   -- a machine that goes on, and one whose call has ended
@@ -210,40 +134,6 @@ module _ (sent got : List (List ℕ)) (past : List (Event (List ℕ))) (p : List
   lists_by Idle e b = absurd (cc)
   lists_by Stopped e b = absurd (cc)
 
--- the indices and flags, while a call is under way and after it
-abbrev pub write_at : Stage → Ending → EndMachine → ℕ → ℕ
-write_at SendMask how b n = ahead b.cells b.write (n + 1)
-write_at SendLook how b n = ahead b.cells b.write (n + 1)
-write_at SendRaise how b n = ahead b.cells b.write (n + 1)
-write_at Idle how b n = cond (is_sent how) (ahead b.cells b.write (n + 1)) b.write
-write_at _ how b n = b.write
-
-abbrev pub read_at : Stage → Ending → EndMachine → ℕ → ℕ
-read_at Idle how b n = cond (is_took how) (ahead b.cells b.read (n + 1)) b.read
-read_at _ how b n = b.read
-
-abbrev pub start_at : Stage → Ending → EndMachine → ℕ
-start_at Idle how b = cond (is_committed how) b.read b.start
-start_at st how b = cond (is_given_at st) b.read b.start
-
-abbrev pub asleep_at : Stage → Ending → Bool
-asleep_at Idle how = is_dozed how
-asleep_at st how = is_polling_at st
-
-abbrev pub marked_at : Stage → Ending → Bool
-marked_at Idle how = is_marked how
-marked_at _ how = false
-
-pub record Moves (b m : EndMachine) : Type 0 where
-  pub cells : m.cells ≡ b.cells
-  pub side : m.side ≡ b.side
-  pub write : m.write ≡ write_at m.stage m.ended b m.len
-  pub read : m.read ≡ read_at m.stage m.ended b m.len
-  pub start : m.start ≡ start_at m.stage m.ended b
-  pub asleep : m.asleep ≡ asleep_at m.stage m.ended
-  pub marked : m.marked ≡ marked_at m.stage m.ended
-  pub unseen : is_unseen_at m.stage ≡ true → m.saw ≡ false
-
 module _ (b m : EndMachine) (v : ℕ) (it : Moves b m) where
   pub w_at : (st : Stage) → m.stage ≡ st → m.write ≡ write_at st m.ended b m.len
   w_at st e = it.write ∙ ap (λ (x : Stage). write_at x m.ended b m.len) e
@@ -280,7 +170,6 @@ module _ (b m : EndMachine) (v : ℕ) (it : Moves b m) where
   moves_by SendWrite e y = moved _ it.cells it.side (ahead_same (w_at SendWrite e)) (r_at SendWrite e) (s_at SendWrite e) (a_at SendWrite e) (k_at SendWrite e) (λ h. absurd (cc))
   moves_by SendMask e y = at_cond (Moves b) (eqb (low v) 0) _ _ (λ t. moved _ it.cells it.side (w_at SendMask e) (r_at SendMask e) (s_at SendMask e) (a_at SendMask e) (k_at SendMask e) (λ h. absurd (cc))) (λ t. moved _ it.cells it.side (w_at SendMask e) (r_at SendMask e) (s_at SendMask e) (a_at SendMask e) (k_at SendMask e) (λ h. absurd (cc)))
   moves_by SendLook e y = at_cond (Moves b) (eqb (low v) (8 * m.old)) _ _ (λ t. moved _ it.cells it.side (w_at SendLook e) (r_at SendLook e) (s_at SendLook e) (a_at SendLook e) (k_at SendLook e) (λ h. absurd (cc))) (λ t. moved _ it.cells it.side (w_at SendLook e) (r_at SendLook e) (s_at SendLook e) (a_at SendLook e) (k_at SendLook e) (λ h. absurd (cc)))
-  moves_by SendRaise e y = moved _ it.cells it.side (w_at SendRaise e) (r_at SendRaise e) (s_at SendRaise e) (a_at SendRaise e) (k_at SendRaise e) (λ h. absurd (cc))
   moves_by TakeWrite e y = at_cond (Moves b) (is_index m.cells v) _ _ (λ t. at_cond (Moves b) (eqb (cell_of v) m.read) _ _ (λ u. moved _ it.cells it.side (w_at TakeWrite e) (r_at TakeWrite e) (s_at TakeWrite e) (a_at TakeWrite e) (k_at TakeWrite e) (λ h. absurd (cc))) (λ u. moved _ it.cells it.side (w_at TakeWrite e) (r_at TakeWrite e) (s_at TakeWrite e) (a_at TakeWrite e) (k_at TakeWrite e) (λ h. absurd (cc)))) (λ t. moved _ it.cells it.side (w_at TakeWrite e) (r_at TakeWrite e) (s_at TakeWrite e) (a_at TakeWrite e) (k_at TakeWrite e) (λ h. absurd (cc)))
   moves_by TakeFirst e y = at_cond (Moves b) (leb 2 (len8_of v) && ltb (len8_of v) (used m.cells m.read m.seen)) _ _ (λ t. at_cond (Moves b) (leb 2 (offset8_of v) && leb (offset8_of v) (len8_of v)) _ _ (λ u. moved _ it.cells it.side (w_at TakeFirst e) (r_at TakeFirst e) (s_at TakeFirst e) (a_at TakeFirst e) (k_at TakeFirst e) (λ h. absurd (cc))) (λ u. moved _ it.cells it.side (w_at TakeFirst e) (r_at TakeFirst e) (s_at TakeFirst e) (a_at TakeFirst e) (k_at TakeFirst e) (λ h. absurd (cc)))) (λ t. moved _ it.cells it.side (w_at TakeFirst e) (r_at TakeFirst e) (s_at TakeFirst e) (a_at TakeFirst e) (k_at TakeFirst e) (λ h. absurd (cc)))
   moves_by TakeCell e y = at_cond (Moves b) (ltb (m.done + 1) m.len) _ _ (λ t. moved _ it.cells it.side it.write it.read it.start it.asleep it.marked it.unseen) (λ t. moved _ it.cells it.side (w_at TakeCell e) (reads_same (r_at TakeCell e)) (s_at TakeCell e) (a_at TakeCell e) (k_at TakeCell e) (λ h. absurd (cc)))
@@ -288,31 +177,17 @@ module _ (b m : EndMachine) (v : ℕ) (it : Moves b m) where
   moves_by CommitFeature e y = at_cond (Moves b) (eqb (low v % 2) 1) _ _ (λ t. moved _ it.cells it.side (w_at CommitFeature e) (r_at CommitFeature e) (s_at CommitFeature e) (a_at CommitFeature e) (k_at CommitFeature e) (λ h. absurd (cc))) (λ t. moved _ it.cells it.side (w_at CommitFeature e) (r_at CommitFeature e) (s_at CommitFeature e) (a_at CommitFeature e) (k_at CommitFeature e) (λ h. absurd (cc)))
   moves_by CommitPending e y = at_cond (Moves b) (eqb (low v) 0) _ _ (λ t. moved _ it.cells it.side (w_at CommitPending e) (r_at CommitPending e) (s_at CommitPending e) (a_at CommitPending e) (k_at CommitPending e) (λ h. absurd (cc))) (λ t. moved _ it.cells it.side (w_at CommitPending e) (r_at CommitPending e) (s_at CommitPending e) (a_at CommitPending e) (k_at CommitPending e) (λ h. absurd (cc)))
   moves_by CommitWrite e y = at_cond (Moves b) (makes_room m v) _ _ (λ t. moved _ it.cells it.side (w_at CommitWrite e) (r_at CommitWrite e) (s_at CommitWrite e) (a_at CommitWrite e) (k_at CommitWrite e) (λ h. absurd (cc))) (λ t. moved _ it.cells it.side (w_at CommitWrite e) (r_at CommitWrite e) (s_at CommitWrite e) (a_at CommitWrite e) (k_at CommitWrite e) (λ h. absurd (cc)))
-  moves_by CommitRaise e y = moved _ it.cells it.side (w_at CommitRaise e) (r_at CommitRaise e) (s_at CommitRaise e) (a_at CommitRaise e) (k_at CommitRaise e) (λ h. absurd (cc))
   moves_by ArmPending e y = moved _ it.cells it.side (w_at ArmPending e) (r_at ArmPending e) (s_at ArmPending e) (a_at ArmPending e) (k_at ArmPending e) (λ _. u_at ArmPending e refl)
   moves_by ArmMask e y = moved _ it.cells it.side (w_at ArmMask e) (r_at ArmMask e) (s_at ArmMask e) (a_at ArmMask e) (k_at ArmMask e) (λ _. u_at ArmMask e refl)
   moves_by ArmWrite e y = at_cond (Moves b) (eqb (low v) (8 * m.read)) _ _ (λ t. at_cond (Moves b) (eqb m.want 0) _ _ (λ u. moved _ it.cells it.side (w_at ArmWrite e) (r_at ArmWrite e) (s_at ArmWrite e) (a_at ArmWrite e) (k_at ArmWrite e) (λ _. u_at ArmWrite e refl)) (λ u. moved _ it.cells it.side (w_at ArmWrite e) (r_at ArmWrite e) (s_at ArmWrite e) (a_at ArmWrite e) (k_at ArmWrite e) (λ _. u_at ArmWrite e refl))) (λ t. moved _ it.cells it.side (w_at ArmWrite e) (r_at ArmWrite e) (s_at ArmWrite e) (a_at ArmWrite e) (k_at ArmWrite e) (λ h. absurd (cc)))
   moves_by ArmRead e y = at_cond (Moves b) (finds_room m v) _ _ (λ t. moved _ it.cells it.side (w_at ArmRead e) (r_at ArmRead e) (s_at ArmRead e) (a_at ArmRead e) (k_at ArmRead e) (λ h. absurd (cc))) (λ t. moved _ it.cells it.side (w_at ArmRead e) (r_at ArmRead e) (s_at ArmRead e) (a_at ArmRead e) (k_at ArmRead e) (λ _. u_at ArmRead e refl))
   moves_by ArmMark e y = at_cond (Moves b) (eqb v 0) _ _ (λ t. moved _ it.cells it.side (w_at ArmMark e) (r_at ArmMark e) (s_at ArmMark e) refl (k_at ArmMark e) (λ h. absurd (cc))) (λ t. moved _ it.cells it.side (w_at ArmMark e) (r_at ArmMark e) (s_at ArmMark e) (a_at ArmMark e) (k_at ArmMark e) (λ h. absurd (cc)))
   moves_by ArmUndoMask e y = at_cond (Moves b) (eqb m.want 0) _ _ (λ t. moved _ it.cells it.side (w_at ArmUndoMask e) (r_at ArmUndoMask e) (s_at ArmUndoMask e) (a_at ArmUndoMask e) (k_at ArmUndoMask e) (λ h. absurd (cc))) (λ t. moved _ it.cells it.side (w_at ArmUndoMask e) (r_at ArmUndoMask e) (s_at ArmUndoMask e) (a_at ArmUndoMask e) (k_at ArmUndoMask e) (λ h. absurd (cc)))
-  moves_by ArmUndoPending e y = moved _ it.cells it.side (w_at ArmUndoPending e) (r_at ArmUndoPending e) (s_at ArmUndoPending e) (a_at ArmUndoPending e) (k_at ArmUndoPending e) (λ h. absurd (cc))
   moves_by PollSignal e y = at_cond (Moves b) (eqb v 0) _ _ (λ t. moved _ it.cells it.side (w_at PollSignal e) (r_at PollSignal e) (s_at PollSignal e) (a_at PollSignal e) (k_at PollSignal e) (λ h. absurd (cc))) (λ t. moved _ it.cells it.side (w_at PollSignal e) (r_at PollSignal e) (s_at PollSignal e) refl (k_at PollSignal e) (λ h. absurd (cc)))
   moves_by PollMask e y = at_cond (Moves b) (eqb m.want 0) _ _ (λ t. moved _ it.cells it.side (w_at PollMask e) (r_at PollMask e) (s_at PollMask e) (a_at PollMask e) (k_at PollMask e) (λ h. absurd (cc))) (λ t. moved _ it.cells it.side (w_at PollMask e) (r_at PollMask e) (s_at PollMask e) (a_at PollMask e) (k_at PollMask e) (λ h. absurd (cc)))
-  moves_by PollPending e y = moved _ it.cells it.side (w_at PollPending e) (r_at PollPending e) (s_at PollPending e) (a_at PollPending e) (k_at PollPending e) (λ h. absurd (cc))
-  moves_by MarkStore e y = moved _ it.cells it.side (w_at MarkStore e) (r_at MarkStore e) (s_at MarkStore e) (a_at MarkStore e) (k_at MarkStore e) (λ h. absurd (cc))
   moves_by MarkRaise e y = moved _ it.cells it.side (w_at MarkRaise e) (r_at MarkRaise e) (s_at MarkRaise e) (a_at MarkRaise e) refl (λ h. absurd (cc))
   moves_by PeerMark e y = at_cond (Moves b) (eqb v 0) _ _ (λ t. moved _ it.cells it.side (w_at PeerMark e) (r_at PeerMark e) (s_at PeerMark e) (a_at PeerMark e) (k_at PeerMark e) (λ h. absurd (cc))) (λ t. moved _ it.cells it.side (w_at PeerMark e) (r_at PeerMark e) (s_at PeerMark e) (a_at PeerMark e) (k_at PeerMark e) (λ h. absurd (cc)))
-
--- the first word of the packet that is taken says its length and its offset
-pub record Form (len : ℕ) (buf : List ℕ) : Type 0 where
-  pub length_is : len8_of (slice_index buf 0) ≡ len
-  pub offset : (2 ≤ offset8_of (slice_index buf 0)) × (offset8_of (slice_index buf 0) ≤ len)
-  pub two : 1 < len
-
-abbrev pub is_formed : Stage → Ending → Bool
-is_formed TakeCell how = true
-is_formed Idle how = is_took how
-is_formed _ how = false
+  moves_by _ e y = moved _ it.cells it.side (w_at _ e) (r_at _ e) (s_at _ e) (a_at _ e) (k_at _ e) (λ h. absurd (cc))
 
 first_set : (xs : List ℕ) (i v : ℕ) → 0 < i → slice_index (set xs i v) 0 ≡ slice_index xs 0
 first_set [] i v h = refl
@@ -336,28 +211,19 @@ module _ (m : EndMachine) (buf : List ℕ) (v : ℕ) (s : IsSound m) (w : length
   form_by Stopped e y = absurd (cc)
   form_by SendRead e y = at_cond (λ (k : EndMachine). is_formed k.stage k.ended ≡ true → Form k.len buf) (is_index m.cells v) _ _ (λ t. at_cond (λ (k : EndMachine). is_formed k.stage k.ended ≡ true → Form k.len buf) (leb (free m.cells (cell_of v) m.write) (m.len + 1)) _ _ (λ u. λ h. absurd (no_true refl h)) (λ u. λ h. absurd (no_true refl h))) (λ t. λ h. absurd (no_true refl h))
   form_by SendCell e y = at_cond (λ (k : EndMachine). is_formed k.stage k.ended ≡ true → Form k.len buf) (ltb m.done m.len) _ _ (λ t. λ h. absurd (no_true (ap (λ (x : Stage). is_formed x m.ended) e) h)) (λ t. λ h. absurd (no_true refl h))
-  form_by SendWrite e y = λ h. absurd (no_true refl h)
   form_by SendMask e y = at_cond (λ (k : EndMachine). is_formed k.stage k.ended ≡ true → Form k.len buf) (eqb (low v) 0) _ _ (λ t. λ h. absurd (no_true refl h)) (λ t. λ h. absurd (no_true refl h))
   form_by SendLook e y = at_cond (λ (k : EndMachine). is_formed k.stage k.ended ≡ true → Form k.len buf) (eqb (low v) (8 * m.old)) _ _ (λ t. λ h. absurd (no_true refl h)) (λ t. λ h. absurd (no_true refl h))
-  form_by SendRaise e y = λ h. absurd (no_true refl h)
   form_by TakeWrite e y = at_cond (λ (k : EndMachine). is_formed k.stage k.ended ≡ true → Form k.len buf) (is_index m.cells v) _ _ (λ t. at_cond (λ (k : EndMachine). is_formed k.stage k.ended ≡ true → Form k.len buf) (eqb (cell_of v) m.read) _ _ (λ u. λ h. absurd (no_true refl h)) (λ u. λ h. absurd (no_true refl h))) (λ t. λ h. absurd (no_true refl h))
   form_by TakeFirst e y = at_cond (λ (k : EndMachine). is_formed k.stage k.ended ≡ true → Form k.len (set buf m.done v)) (leb 2 (len8_of v) && ltb (len8_of v) (used m.cells m.read m.seen)) _ _ (λ t. at_cond (λ (k : EndMachine). is_formed k.stage k.ended ≡ true → Form k.len (set buf m.done v)) (leb 2 (offset8_of v) && leb (offset8_of v) (len8_of v)) _ _ (λ u. λ _. (let here : slice_index (set buf m.done v) 0 ≡ v = ap (λ (i : ℕ). slice_index (set buf i v) 0) (s.first e) ∙ set_first buf v (omega (arith, s.cells)) in let low : 2 ≤ offset8_of v = (let x = and_left (leb 2 (offset8_of v)) _ u in grind (arith, nat_tests)) in let high : offset8_of v ≤ len8_of v = (let x = and_right (leb 2 (offset8_of v)) _ u in grind (arith, nat_tests)) in let two : 1 < len8_of v = (let x = and_left (leb 2 (len8_of v)) _ t in grind (arith, nat_tests)) in formed_as v (len8_of v) (set buf m.done v) here refl (low, high) two)) (λ u. λ h. absurd (no_true refl h))) (λ t. λ h. absurd (no_true refl h))
   form_by TakeCell e y = at_cond (λ (k : EndMachine). is_formed k.stage k.ended ≡ true → Form k.len (set buf m.done v)) (ltb (m.done + 1) m.len) _ _ (λ t. λ _. (let f = it (ap (λ (x : Stage). is_formed x m.ended) e) in formed_as (slice_index buf 0) m.len (set buf m.done v) (first_set buf m.done v (s.copying e).0) f.length_is f.offset f.two)) (λ t. λ _. (let f = it (ap (λ (x : Stage). is_formed x m.ended) e) in formed_as (slice_index buf 0) m.len (set buf m.done v) (first_set buf m.done v (s.copying e).0) f.length_is f.offset f.two))
-  form_by CommitRead e y = λ h. absurd (no_true refl h)
   form_by CommitFeature e y = at_cond (λ (k : EndMachine). is_formed k.stage k.ended ≡ true → Form k.len buf) (eqb (low v % 2) 1) _ _ (λ t. λ h. absurd (no_true refl h)) (λ t. λ h. absurd (no_true refl h))
   form_by CommitPending e y = at_cond (λ (k : EndMachine). is_formed k.stage k.ended ≡ true → Form k.len buf) (eqb (low v) 0) _ _ (λ t. λ h. absurd (no_true refl h)) (λ t. λ h. absurd (no_true refl h))
   form_by CommitWrite e y = at_cond (λ (k : EndMachine). is_formed k.stage k.ended ≡ true → Form k.len buf) (makes_room m v) _ _ (λ t. λ h. absurd (no_true refl h)) (λ t. λ h. absurd (no_true refl h))
-  form_by CommitRaise e y = λ h. absurd (no_true refl h)
-  form_by ArmPending e y = λ h. absurd (no_true refl h)
-  form_by ArmMask e y = λ h. absurd (no_true refl h)
   form_by ArmWrite e y = at_cond (λ (k : EndMachine). is_formed k.stage k.ended ≡ true → Form k.len buf) (eqb (low v) (8 * m.read)) _ _ (λ t. at_cond (λ (k : EndMachine). is_formed k.stage k.ended ≡ true → Form k.len buf) (eqb m.want 0) _ _ (λ u. λ h. absurd (no_true refl h)) (λ u. λ h. absurd (no_true refl h))) (λ t. λ h. absurd (no_true refl h))
   form_by ArmRead e y = at_cond (λ (k : EndMachine). is_formed k.stage k.ended ≡ true → Form k.len buf) (finds_room m v) _ _ (λ t. λ h. absurd (no_true refl h)) (λ t. λ h. absurd (no_true refl h))
   form_by ArmMark e y = at_cond (λ (k : EndMachine). is_formed k.stage k.ended ≡ true → Form k.len buf) (eqb v 0) _ _ (λ t. λ h. absurd (no_true refl h)) (λ t. λ h. absurd (no_true refl h))
   form_by ArmUndoMask e y = at_cond (λ (k : EndMachine). is_formed k.stage k.ended ≡ true → Form k.len buf) (eqb m.want 0) _ _ (λ t. λ h. absurd (no_true refl h)) (λ t. λ h. absurd (no_true refl h))
-  form_by ArmUndoPending e y = λ h. absurd (no_true refl h)
   form_by PollSignal e y = at_cond (λ (k : EndMachine). is_formed k.stage k.ended ≡ true → Form k.len buf) (eqb v 0) _ _ (λ t. λ h. absurd (no_true refl h)) (λ t. λ h. absurd (no_true refl h))
   form_by PollMask e y = at_cond (λ (k : EndMachine). is_formed k.stage k.ended ≡ true → Form k.len buf) (eqb m.want 0) _ _ (λ t. λ h. absurd (no_true refl h)) (λ t. λ h. absurd (no_true refl h))
-  form_by PollPending e y = λ h. absurd (no_true refl h)
-  form_by MarkStore e y = λ h. absurd (no_true refl h)
-  form_by MarkRaise e y = λ h. absurd (no_true refl h)
   form_by PeerMark e y = at_cond (λ (k : EndMachine). is_formed k.stage k.ended ≡ true → Form k.len buf) (eqb v 0) _ _ (λ t. λ h. absurd (no_true refl h)) (λ t. λ h. absurd (no_true refl h))
+  form_by _ e y = λ h. absurd (no_true refl h)

@@ -4,6 +4,7 @@ pub mod Steps
 pub mod States
 pub mod Loops
 pub mod Endings
+pub mod Moves
 pub mod Inside
 pub mod PageCalls
 pub mod Causes

@@ -1,58 +1,9 @@
--- What the driver asks of a machine: the stages that have a loop of their own, for speed, and a machine that starts.
+-- What a driver asks of a machine: one that starts, and what the steps of a call leave of it.
 use Rattle.std.specs.Prelude.{◌≡◌, Bool, true, false}
 use Rattle.ring_machine.specs.declared.machine.Stage.{Stage}
-use Rattle.ring_machine.specs.declared.machine.Stage.TheVariants.{SendRead, SendCell, SendWrite, SendMask, TakeWrite, TakeFirst, TakeCell, CommitRead, CommitFeature, CommitPending, CommitWrite, CommitRaise, ArmPending, ArmMask, ArmWrite, ArmRead, ArmMark, PollSignal, MarkStore, PeerMark}
+use Rattle.ring_machine.specs.declared.machine.Stage.TheVariants.{SendRead, TakeWrite, CommitRead, CommitFeature, CommitPending, CommitWrite, CommitRaise, ArmPending, ArmMask, ArmWrite, ArmRead, ArmMark, PollSignal, MarkStore, PeerMark}
 use Rattle.ring_machine.specs.declared.machine.EndMachine.{EndMachine}
-
--- the next step stores a cell of the packet, or its trailer
-abbrev pub is_storing_at : Stage → Bool
-is_storing_at SendCell = true
-is_storing_at _ = false
-
--- the next step stores the write index
-abbrev pub is_writing_at : Stage → Bool
-is_writing_at SendWrite = true
-is_writing_at _ = false
-
--- the next step loads the peer's mask
-abbrev pub is_masking_at : Stage → Bool
-is_masking_at SendMask = true
-is_masking_at _ = false
-
--- the next step loads the first cell of a packet
-abbrev pub is_first_at : Stage → Bool
-is_first_at TakeFirst = true
-is_first_at _ = false
-
--- the next step loads a cell after a packet's first
-abbrev pub is_loading_at : Stage → Bool
-is_loading_at TakeCell = true
-is_loading_at _ = false
-
--- the next step loads the read index, for a send
-abbrev pub is_asking_at : Stage → Bool
-is_asking_at SendRead = true
-is_asking_at _ = false
-
--- the next step loads the write index, for a take
-abbrev pub is_seeking_at : Stage → Bool
-is_seeking_at TakeWrite = true
-is_seeking_at _ = false
-
--- the next step stores the read index
-abbrev pub is_giving_at : Stage → Bool
-is_giving_at CommitRead = true
-is_giving_at _ = false
-
--- the next step loads the peer's feature bits
-abbrev pub is_feature_at : Stage → Bool
-is_feature_at CommitFeature = true
-is_feature_at _ = false
-
--- the next step loads the room that the peer waits for
-abbrev pub is_pending_at : Stage → Bool
-is_pending_at CommitPending = true
-is_pending_at _ = false
+use Rattle.ring_machine.specs.EndCalls.{EndCall, Send, Take, Commit}
 
 -- the steps of an arm up to its look for the peer's mark
 abbrev pub is_unseen_at : Stage → Bool
@@ -94,7 +45,7 @@ pub record Starts (m : EndMachine) : Type 0 where
   pub asleep : m.asleep ≡ is_polling_at m.stage
   pub unseen : is_unseen_at m.stage ≡ true → m.saw ≡ false
 
--- what the frequent steps of a send leave as it was
+-- what the steps of a send leave as it was
 pub record SendKeeps (m k : EndMachine) : Type 0 where
   pub cells : m.cells ≡ k.cells
   pub read : m.read ≡ k.read
@@ -109,7 +60,7 @@ pub record SendKeeps (m k : EndMachine) : Type 0 where
   pub drained : m.drained ≡ k.drained
   pub saw : m.saw ≡ k.saw
 
--- what the frequent steps of a take leave as it was
+-- what the steps of a take leave as it was
 pub record TakeKeeps (m k : EndMachine) : Type 0 where
   pub cells : m.cells ≡ k.cells
   pub write : m.write ≡ k.write
@@ -124,7 +75,7 @@ pub record TakeKeeps (m k : EndMachine) : Type 0 where
   pub peer_marked : m.peer_marked ≡ k.peer_marked
   pub saw : m.saw ≡ k.saw
 
--- what the frequent steps of a commit leave as it was
+-- what the steps of a commit leave as it was
 pub record CommitKeeps (m k : EndMachine) : Type 0 where
   pub cells : m.cells ≡ k.cells
   pub write : m.write ≡ k.write
@@ -141,3 +92,10 @@ pub record CommitKeeps (m k : EndMachine) : Type 0 where
   pub peer_marked : m.peer_marked ≡ k.peer_marked
   pub drained : m.drained ≡ k.drained
   pub saw : m.saw ≡ k.saw
+
+-- what the steps of a send, a take and a commit leave as it was
+abbrev pub Keeps : EndCall → EndMachine → EndMachine → Type 0
+Keeps Send m k = SendKeeps m k
+Keeps Take m k = TakeKeeps m k
+Keeps Commit m k = CommitKeeps m k
+Keeps _ m k = Unit {0}

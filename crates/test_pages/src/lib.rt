@@ -4,6 +4,8 @@
 #[cfg(test)]
 mod check;
 #[cfg(test)]
+mod lean_page_tests;
+#[cfg(test)]
 mod lends;
 #[cfg(test)]
 mod network_page_tests;

@@ -4,10 +4,9 @@ use Rattle.std.proofs.lemmas.Bool.Decides.{nat_tests}
 use Rattle.ring_machine.specs.declared.machine.EndMachine.{EndMachine}
 use Rattle.ring_machine.specs.declared.machine.Stage.{Stage}
 use Rattle.ring_machine.specs.declared.machine.Stage.TheVariants.{Stopped, TakeFirst, TakeCell, ArmPending, ArmRead}
-use Rattle.ring_machine.specs.Loops.{is_first_at, is_loading_at}
 use Rattle.ring_machine.specs.Steps.{IsSound, is_arming_at, is_broken, is_busy_at, is_looking_at, sleeps_at}
 use Rattle.ring_machine.proofs.Sound.{and_left, and_right}
-use Rattle.vmbus_ring_c.specs.Sound.{counts_fit, fits_ring, fits_stage, flags_fit, is_wanting_at, is_stopped_at, rests, stops_fit}
+use Rattle.vmbus_ring_c.specs.Sound.{counts_fit, fits_ring, fits_stage, flags_fit, is_first_at, is_loading_at, is_wanting_at, is_stopped_at, rests, stops_fit}
 
 both : (a b : Bool) → a ≡ true → b ≡ true → (a && b) ≡ true
 both true b e f = f

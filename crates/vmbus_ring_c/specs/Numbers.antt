@@ -1,6 +1,6 @@
 -- The machine of an end by the numbers that C keeps of it.
 use Rattle.std.specs.Prelude.{ℕ, Bool, ◌==◌, not, cond, List, [], ◌∷◌, slice_index_or}
-pub use Rattle.ring_plan.specs.Answers.{number_of_ending}
+pub use Rattle.ring_call_plan.specs.Answers.{number_of_ending}
 use Rattle.io_edge.specs.declared.side.Side.{Side}
 use Rattle.io_edge.specs.declared.side.Side.TheVariants.{Guest, Host}
 use Rattle.ring_machine.specs.declared.machine.EndMachine.{EndMachine}

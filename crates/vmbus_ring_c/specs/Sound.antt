@@ -2,8 +2,7 @@
 use Rattle.std.specs.Prelude.{◌+◌, ◌*◌, Bool, true, false, ◌==◌, ◌&&◌, ◌||◌, not, leb, ltb}
 use Rattle.ring_machine.specs.declared.machine.EndMachine.{EndMachine}
 use Rattle.ring_machine.specs.declared.machine.Stage.{Stage}
-use Rattle.ring_machine.specs.declared.machine.Stage.TheVariants.{Stopped, ArmPending, ArmRead}
-use Rattle.ring_machine.specs.Loops.{is_first_at, is_loading_at}
+use Rattle.ring_machine.specs.declared.machine.Stage.TheVariants.{Stopped, TakeFirst, TakeCell, ArmPending, ArmRead}
 use Rattle.ring_machine.specs.Steps.{is_arming_at, is_broken, is_busy_at, is_looking_at, sleeps_at}
 
 -- indices and lengths lie in the ring
@@ -13,6 +12,16 @@ fits_ring m = leb 512 m.cells && (leb m.cells 16777216 && (ltb m.write m.cells &
 abbrev pub is_stopped_at : Stage → Bool
 is_stopped_at Stopped = true
 is_stopped_at _ = false
+
+-- the step loads the first cell of a packet
+abbrev pub is_first_at : Stage → Bool
+is_first_at TakeFirst = true
+is_first_at _ = false
+
+-- the step loads a cell after a packet's first
+abbrev pub is_loading_at : Stage → Bool
+is_loading_at TakeCell = true
+is_loading_at _ = false
 
 -- a step of an arm that waits for room
 abbrev pub is_wanting_at : Stage → Bool

@@ -1,8 +1,7 @@
 //! Whether the numbers of an end are those of one.
 ghost use Rattle.std.specs.Prelude.{◌≡◌, ◌<◌, ◌^◌, ◌&&◌, ◌||◌, not, true};
-ghost use Rattle.ring_machine.specs.Loops.{is_first_at, is_loading_at};
 ghost use Rattle.ring_machine.specs.Steps.{IsSound, is_arming_at, is_broken, is_busy_at, is_looking_at, sleeps_at};
-ghost use Rattle.vmbus_ring_c.specs.Sound.{counts_fit, fits_ring, fits_stage, flags_fit, is_wanting_at, is_stopped_at, rests, stops_fit};
+ghost use Rattle.vmbus_ring_c.specs.Sound.{counts_fit, fits_ring, fits_stage, flags_fit, is_first_at, is_loading_at, is_wanting_at, is_stopped_at, rests, stops_fit};
 
 use ring_machine::{EndMachine, Ending, Stage};
 

@@ -20,6 +20,7 @@ returns g c = record {
   items = c.store_where.ensures.items ∙ ap (λ (b : Bool). stored b c.args.buf.now.items c.args.core.now.machine.done c.perform-v.result) c.is_copying-copies.ensures;
   len = c.store_where.ensures.len;
   runs = λ m op e n. c.perform-v.ensures.runs m op e (ring_next _ _ _ _ n);
+  hears = c.perform-v.ensures.hears;
   same = c.perform-v.ensures.same;
   cells = c.perform-v.ensures.cells;
   silent = c.perform-v.ensures.silent;

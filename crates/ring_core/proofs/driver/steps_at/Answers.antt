@@ -2,8 +2,9 @@ use Rattle.std.proofs.Common.{◌≡◌, true, refl, sym, ap, ◌∙◌, subst}
 use Rattle.ring_machine.specs.declared.machine.Stage.{Stage}
 use Rattle.ring_machine.specs.Steps.{call_at, fed, is_busy_at}
 use Rattle.ring_machine.proofs.Sound.{fed_nearer}
-use Rattle.ring_core.specs.Going.{Keeps}
-use Rattle.ring_core.proofs.Goings.{can_step, goes_more, goes_none, goes_step, keeps_more, keeps_none, keeps_step, may_more}
+use Rattle.ring_machine.specs.Loops.{Keeps}
+use Rattle.ring_machine.proofs.Kept.{keeps_more, keeps_none, keeps_step}
+use Rattle.ring_core.proofs.Goings.{can_step, goes_more, goes_none, goes_step, may_more}
 use Rattle.ring_core.proofs.driver.steps_at.Goals as goal
 
 pub step-requires : goal.step-requires

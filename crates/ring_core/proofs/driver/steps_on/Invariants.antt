@@ -6,7 +6,7 @@ use Rattle.ring_core.proofs.driver.steps_on.Given as goal
 abbrev pub invariant-loop-seat : goal.invariant-loop-seat
 invariant-loop-seat g l =
     record {
-      goes : Goes g.S.Seatlike.cells g.S.Seatlike.told g.S.Seatlike.memory g.S.Seatlike.same l.fn.seat l.seat l.fn.core.machine l.core.machine l.packet l.fn.buf.items l.buf.items;
+      goes : Goes g.S.Seatlike.cells g.S.Seatlike.told g.S.Seatlike.tale g.S.Seatlike.same l.fn.seat l.seat l.fn.core.machine l.core.machine l.packet l.fn.buf.items l.buf.items;
       pages : l.core.pages ≡ l.fn.core.pages;
     }
 

@@ -1,67 +1,91 @@
-use Rattle.std.proofs.Common.{◌≡◌, ◌≢◌, ℕ, ◌+◌, ◌==◌, true, List, [], ◌∷◌, ◌++◌, length, sym, ap, ◌∙◌, subst, arith}
-use Rattle.std.proofs.lemmas.Bool.Decides.{nat_tests}
-use Rattle.channel_trace.specs.declared.past.Past.{Past}
+use Rattle.std.proofs.Common.{◌≡◌, ◌≢◌, ℕ, List, Some, None, [], ◌∷◌, ◌++◌, length, sym, ap, ◌∙◌, subst, arith}
 use Rattle.page_kept.specs.declared.due.Due.TheVariants.{Clear, Loads as DueLoads}
 use Rattle.page_kept.specs.declared.page_call.PageCall.TheVariants.{LoadWords}
 use Rattle.page_kept.specs.Items.{item_of, values}
 use Rattle.page_table.specs.Table.{word_of}
 use Rattle.ring_machine.specs.PageCalls.{newest}
+use Rattle.ring_core.specs.Driven.{Lean}
+use Rattle.ring_core.specs.Keeping.{Keeps}
 use Rattle.ring_core.specs.PageRuns.{RanPages}
-use Rattle.ring_core.specs.Pages.{is_whole, items_of, last_words, owed, resting_in}
+use Rattle.ring_core.specs.Pages.{last_words, owed, part_len, part_words}
 use Rattle.ring_core.specs.Seen.{Listed, Seen}
-use Rattle.ring_core.proofs.Loading.{items_last}
-use Rattle.ring_core.proofs.Paging.{due_inside, last_more, values_long}
+use Rattle.ring_core.proofs.ListLaws.{by_due, keeps_loaded, list_paged}
+use Rattle.ring_core.proofs.Paging.{last_more, values_long}
 use Rattle.ring_core.proofs.end.End.load_in.Goals as goal
 
-pub returns-in-Loads : goal.returns-in-Loads
-returns-in-Loads g c =
-    let it = c.self.inside.parts in
+pub keep_words-requires-clause-paged : goal.keep_words-requires-clause-paged
+keep_words-requires-clause-paged g c = λ a is.
+    let e = c.load-part.ensures in
+    let inside = (e.inside a is).0 in
+    let some : c.self.inside.lean.driven.state.pages.count ≢ 0 = λ z. omega (arith, z, inside, e.held.0) in
+    let x = e.all (λ z. let y : None ≡ Some a = sym (e.none z).0 ∙ is in cc) in
+    (list_paged c.self.invariant.got some, c.self.invariant.got.place some (omega (arith, ap owed x.2.due)))
+
+pub keep_words-requires-clause-words : goal.keep_words-requires-clause-words
+keep_words-requires-clause-words g c = omega (arith, c.requires.room, ap (λ (x : Seen _). x.spare_got.words) c.self.view_is)
+
+pub invariant_of-self : goal.invariant_of-self
+invariant_of-self g c =
+    let old = c.self.inside.lean.driven.state in
+    let new = c.load-part.new.self.driven.state in
+    let e = c.load-part.ensures in
+    let k = c.keep_words.ensures in
+    by_due old.pages.due
+    (λ d. let z = e.none d in subst (λ (x : Lean _ × Listed). Keeps g.S.Seatlike.pages x.0 c.self.inside.sent x.1) (λ i. (sym z.1 i, sym (k.none z.0) i)) c.self.invariant)
+    (λ d.
+    let x = e.all d in
+    let inside = (e.inside x.0 x.1).0 in
+    keeps_loaded (values x.0.words (word_of new.pages.copy x.0.page)) c.self.invariant (λ z. omega (arith, z, inside, e.held.0)) (ap owed x.2.due) x.2.clear e.kept.0.sent e.kept.0.got e.held.0 e.held.1 x.2.got k.list (k.lent x.0 x.1 ∙ ap (λ o. c.self.inside.got.lent ++ part_words new.pages.copy o ∷ []) x.1) e.kept.1
+    (g.met.S.Seatlike.same_pages _ _ e.same))
+
+pub returns : goal.returns
+returns g c =
+    let it = c.self.inside.lean.driven in
+    let n = c.load-part.new.self.driven in
     let v = c.self.view_is in
-    let new = c.load_words.new.self in
-    let e = c.load_words.ensures in
-    let q = c.in-Loads.page in
-    let n = c.in-Loads.words in
+    let e = c.load-part.ensures in
+    let k = c.keep_words.ensures in
     let told = g.S.Seatlike.told in
-    let memory = g.S.Seatlike.memory in
-    let whole : (c.in-Loads.done == 0) ≡ true = ap is_whole (sym c.in-Loads.is) ∙ it.fit.whole in
-    let none : c.in-Loads.done ≡ 0 = grind (arith, nat_tests, whole) in
-    let due : it.core.pages.due ≡ DueLoads q n 0 = c.in-Loads.is ∙ ap (λ (j : ℕ). DueLoads q n j) none in
-    let inside = due_inside it.core.pages it.core.machine.stage q n it.core.fit due in
-    let some : it.core.pages.count ≢ 0 = λ z. omega (arith, z, inside.0) in
-    let long : length it.got.list ≡ length it.got.lent + 1 = omega (arith, it.fit.got_all some, ap owed due) in
-    let words : List ℕ = values n (word_of new.table.copy q) in
-    let items : items_of new.got.list new.got.lent ≡ items_of it.got.list it.got.lent ++ item_of (newest it.got.list) words ∷ [] = (λ i. items_of (e.kept.2 i) (e.lent i)) ∙ items_last it.got.list it.got.lent words long in
-    let last : last_words (items_of new.got.list new.got.lent) ≡ words = ap last_words items ∙ last_more (items_of it.got.list it.got.lent) (item_of (newest it.got.list) words) in
-    let end = resting_in new.core.machine new.core.pages new.sent new.got new.past.events new.table in
+    let tale = g.S.Seatlike.tale in
     record {
       loads = record {
-        none = λ h. absurd (let z : DueLoads q n c.in-Loads.done ≡ Clear = sym c.in-Loads.is ∙ (ap (λ (x : Seen _). x.state.pages.due) v ∙ h) in cc);
-        all = λ r m j h.
-            let same : DueLoads q n 0 ≡ DueLoads r m j = sym due ∙ (ap (λ (x : Seen _). x.state.pages.due) v ∙ h) in
-            let page : q ≡ r = cc in
-            let count : n ≡ m = cc in
-            let first : 0 ≡ j = cc in (
+        none = λ h. (let z = e.none (ap (λ (x : Seen _). x.state.pages.due) v ∙ h) in
+            (λ i. record { state = (z.1 i).driven.state; seat = (z.1 i).driven.seat; spare_sent = c.self.inside.sent.room; spare_got = (k.none z.0 i).room }) ∙ v);
+        all = λ q m j h.
+            let d : it.state.pages.due ≡ DueLoads q m j = ap (λ (x : Seen _). x.state.pages.due) v ∙ h in
+            let x = e.all (λ z. let y : DueLoads q m j ≡ Clear = sym d ∙ z in cc) in
+            let same : DueLoads x.0.page x.0.words 0 ≡ DueLoads q m j = sym x.2.due ∙ d in
+            let page : x.0.page ≡ q = cc in
+            let count : x.0.words ≡ m = cc in
+            let first : 0 ≡ j = cc in
+            let last : last_words n.state.pages.got ≡ values x.0.words (word_of n.state.pages.copy x.0.page) = ap last_words x.2.got ∙ last_more it.state.pages.got _ in (
               sym first,
-              omega (arith, inside.2, count),
+              omega (arith, x.2.few, count),
               record {
-                ran = subst (λ (x : ℕ × ℕ). RanPages c.args.self.now.state end (LoadWords x.0 x.1 0) (told c.args.self.now.seat) (told new.seat) (memory c.args.self.now.seat) (memory new.seat)) (λ i. (page i, count i))
-                    (subst (λ (x : Seen _). RanPages x.state end (LoadWords q n 0) (told x.seat) (told new.seat) (memory x.seat) (memory new.seat)) v e.ran);
-                clear = e.clear.0;
-                long = ap length last ∙ (values_long n (word_of new.table.copy q) ∙ count);
-                room = (omega (arith, e.room.0, ap (λ (x : Seen _). x.spare_got.packets) v), omega (arith, e.room.1, ap (λ (x : Seen _). x.spare_got.words) v, count));
+                ran = subst (λ (y : ℕ × ℕ). RanPages c.args.self.now.state n.state (LoadWords y.0 y.1 0) (told c.args.self.now.seat) (told n.seat) (tale c.args.self.now.seat) (tale n.seat)) (λ i. (page i, count i))
+                    (subst (λ (y : Seen _). RanPages y.state n.state (LoadWords x.0.page x.0.words 0) (told y.seat) (told n.seat) (tale y.seat) (tale n.seat)) v x.2.ran);
+                clear = x.2.clear;
+                long = ap length last ∙ (values_long x.0.words (word_of n.state.pages.copy x.0.page) ∙ count);
+                room = (
+                  omega (arith, k.room.0, ap (λ (y : Seen _). y.spare_got.packets) v),
+                  omega (arith, k.room.1, ap part_len x.1, ap (λ (y : Seen _). y.spare_got.words) v, count),
+                );
               },
             );
-        items = λ _.
-            items
-            ∙ (ap (λ (w : List ℕ). items_of it.got.list it.got.lent ++ item_of (newest it.got.list) w ∷ []) (sym last)
-            ∙ ap (λ (x : Seen _). x.state.pages.got ++ item_of (newest x.state.got) (last_words (items_of new.got.list new.got.lent)) ∷ []) v);
+        items = λ h.
+            let x = e.all (λ z. h (sym (ap (λ (y : Seen _). y.state.pages.due) v) ∙ z)) in
+            let words : List ℕ = values x.0.words (word_of n.state.pages.copy x.0.page) in
+            let last : last_words n.state.pages.got ≡ words = ap last_words x.2.got ∙ last_more it.state.pages.got (item_of (newest it.state.got) words) in
+            x.2.got
+            ∙ (ap (λ (w : List ℕ). it.state.pages.got ++ item_of (newest it.state.got) w ∷ []) (sym last)
+            ∙ ap (λ (y : Seen _). y.state.pages.got ++ item_of (newest y.state.got) (last_words n.state.pages.got) ∷ []) v);
         kept = record {
-          machine = e.kept.0 ∙ ap (λ (x : Seen _). x.state.machine) v;
-          sent = ap (λ (l : Listed). l.list) e.kept.1 ∙ ap (λ (x : Seen _). x.state.sent) v;
-          got = e.kept.2 ∙ ap (λ (x : Seen _). x.state.got) v;
-          past = ap (λ (p : Past). p.events) e.kept.3 ∙ ap (λ (x : Seen _). x.state.past) v;
-          spare_sent = ap (λ (l : Listed). l.room) e.kept.1 ∙ ap (λ (x : Seen _). x.spare_sent) v;
+          machine = e.kept.0.machine ∙ ap (λ (x : Seen _). x.state.machine) v;
+          sent = e.kept.0.sent ∙ ap (λ (x : Seen _). x.state.sent) v;
+          got = e.kept.0.got ∙ ap (λ (x : Seen _). x.state.got) v;
+          past = e.kept.0.past ∙ ap (λ (x : Seen _). x.state.past) v;
+          spare_sent = ap (λ (x : Seen _). x.spare_sent) v;
         };
-        same_seat = subst (λ s. g.S.Seatlike.same s new.seat) (ap (λ (x : Seen _). x.seat) v) e.same;
+        same_seat = subst (λ (x : Seen _). g.S.Seatlike.same x.seat n.seat) v e.same;
       };
     }

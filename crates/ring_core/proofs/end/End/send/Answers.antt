@@ -1,80 +1,89 @@
-use Rattle.std.proofs.Common.{◌≡◌, ◌+◌, ◌<◌, length, refl, sym, ap, ◌∙◌, subst, arith}
-use Rattle.page_kept.specs.declared.kept.Kept.{Kept}
-use Rattle.ring_machine.specs.declared.machine.EndMachine.{EndMachine}
-use Rattle.ring_machine.specs.declared.page_core.PageCore.{PageCore}
-use Rattle.ring_machine.specs.declared.state.EndState.{EndState}
-use Rattle.ring_machine.specs.EndCalls.{EndCall, Send}
-use Rattle.ring_machine.specs.Endings.{LeavesBy, is_honest_send}
-use Rattle.ring_machine.specs.States.{Continues, MayLend, entered, shown}
-use Rattle.ring_machine.specs.Steps.{call_at, send_begun}
-use Rattle.ring_machine.proofs.Lengths.{send_len}
-use Rattle.ring_core.specs.declared.room.Room.{Room}
-use Rattle.ring_core.specs.Pages.{kept_of, along}
-use Rattle.ring_core.specs.Seen.{Seen, Listed, SentRoom}
-use Rattle.ring_core.proofs.Driving.{begins_send, honest_send, rebased, rests_at}
+use Rattle.std.proofs.Common.{◌≡◌, ◌==◌, ℕ, cond, not, is_ok, sym, ap, ◌∙◌, subst, arith}
+use Rattle.page_kept.specs.Kept.{pages_sent}
+use Rattle.page_kept.specs.Layouts.{layout}
+use Rattle.ring_machine.specs.Endings.{is_honest_send}
+use Rattle.ring_machine.specs.States.{MayLend}
+use Rattle.ring_machine.specs.Steps.{is_sent}
+use Rattle.ring_core.specs.Driven.{pages_by_send}
+use Rattle.ring_core.specs.Pages.{along}
+use Rattle.ring_core.specs.Seen.{Listed, Seen}
+use Rattle.ring_core.proofs.Driving.{honest_send, rests_at}
+use Rattle.ring_core.proofs.ListLaws.{keeps_sent, list_paged, ok_sent, pages_answered}
 use Rattle.ring_core.proofs.end.End.send.Goals as goal
 
-pub make_call-requires-clause-goes_on : goal.make_call-requires-clause-goes_on
-make_call-requires-clause-goes_on g c = λ u e.
-    let it = c.self.inside.parts in
+pub send-answer-requires-clause-lends : goal.send-answer-requires-clause-lends
+send-answer-requires-clause-lends g c = subst (λ (x : Seen _). MayLend x.state c.args.p.now) (sym c.self.view_is) c.requires.lends
+
+pub send-answer-requires-clause-counts : goal.send-answer-requires-clause-counts
+send-answer-requires-clause-counts g c = λ some.
+    let it = c.self.invariant in
+    let few = c.has_places.ensures (list_paged it.sent some) in
+    let places = it.places some in
+    omega (arith, c.requires.room.0, ap (λ (x : Seen _). x.spare_sent.packets) c.self.view_is, few, places)
+
+pub keep_sent-requires-clause-paged : goal.keep_sent-requires-clause-paged
+keep_sent-requires-clause-paged g c = c.self.invariant.sent.paged ∙ ap (λ (n : ℕ). not (n == 0)) (sym c.send-answer.ensures.count)
+
+pub keep_sent-requires-clause-packets : goal.keep_sent-requires-clause-packets
+keep_sent-requires-clause-packets g c = omega (arith, c.requires.room.0, ap (λ (x : Seen _). x.spare_sent.packets) c.self.view_is)
+
+pub keep_sent-requires-clause-words : goal.keep_sent-requires-clause-words
+keep_sent-requires-clause-words g c =
+    omega (arith, c.requires.room.1, ap (λ (x : Seen _). x.spare_sent.words) c.self.view_is, ap (λ (x : Seen _). along x.state.pages c.args.p.now) c.self.view_is, c.part_along-part.ensures.words)
+
+pub keep_sent-requires-clause-inside : goal.keep_sent-requires-clause-inside
+keep_sent-requires-clause-inside g c = λ a is. let z = c.part_along-part.ensures.inside a is in (omega (arith, z.0, c.send-answer.ensures.count), z.1)
+
+pub invariant_of-self : goal.invariant_of-self
+invariant_of-self g c =
+    let m = c.send-answer.new.self.driven.state.machine in
+    let e = c.send-answer.ensures in
+    let k = c.keep_sent.ensures in
+    let whole = (c.is_stopped.ensures.not c.if-is_stopped.false).1 in
+    let went : c.is_ok-went.result ≡ is_sent m.ended = c.is_ok-went.ensures.value ∙ (ap is_ok (e.ran.0 whole).0 ∙ ok_sent m.ended m) in
+    keeps_sent c.send-answer.result c.is_ok-went.result c.args.p.now c.part_along-part.result c.self.invariant c.is_ok-went.ensures.value c.stands.ensures.listed c.part_along-part.ensures.part e.sent e.got.0 e.pages
+    (record { kept = k.kept; list = k.list; bare = λ is z. k.bare is (e.count ∙ z); paged = k.paged; places = λ is n. k.places is (λ z. n (sym e.count ∙ z)) })
+    (λ is n. k.lent is (λ z. n (sym e.count ∙ z))) (λ is. e.uncounted whole (sym went ∙ is)) e.counts (g.met.S.Seatlike.same_pages _ _ e.same.0)
+
+pub returns-clause-pages : goal.returns-clause-pages
+returns-clause-pages g c = λ _.
+    let n = c.send-answer.new.self.driven.state in
+    let k = c.self.inside.lean.driven.state.pages in
     let p = c.args.p.now in
-    let k = kept_of it.core.pages it.sent it.got it.table in
-    let idle = rests_at it.core.machine.stage c.self.invariant.rests (c.self.invariant.honest u e) in
-    let awake = ap (λ (x : Seen _). x.state.machine.asleep) c.self.view_is ∙ c.requires.awake in
-    let unmarked = ap (λ (x : Seen _). x.state.machine.marked) c.self.view_is ∙ c.requires.unmarked in
-    let small : length p + 1 < it.core.machine.cells = omega (arith, c.requires.fits, ap (λ (x : Seen _). x.state.machine.cells) c.self.view_is) in
-    let lends = subst (λ (x : EndState). MayLend x p) (sym (ap (λ (x : Seen _). x.state) c.self.view_is)) c.requires.lends in
-    subst (λ (x : EndMachine × PageCore). Continues u.state x.0 p × (entered u.state x.0 p ≡ shown x.0 p it.buf.items it.sent.list it.got.list it.past.events (kept_of x.1 it.sent it.got it.table)))
-    (λ i. (sym c.begin_send.ensures.machine i, sym c.begin_send.ensures.pages i))
-    (begins_send u.state it.core.machine it.sent.list it.got.list it.past.events k it.buf.items (c.self.invariant.told u e) idle it.fit.off awake unmarked p c.requires.packet small lends)
-
-pub returns-clause-after : goal.returns-clause-after
-returns-clause-after g c = λ _.
-    let new = c.make_call.new.self.core.machine in
-    let m = c.self.inside.parts.core.machine in
-    let n = length c.args.p.now in
-    let call : call_at c.begin_send.new.self.machine.stage ≡ Send = ap (λ (m : EndMachine). call_at m.stage) c.begin_send.ensures.machine in
-    let after = subst (λ (b : EndMachine). LeavesBy (call_at c.begin_send.new.self.machine.stage) b new) c.begin_send.ensures.machine c.make_call.ensures.after in
-    subst (λ (b : EndMachine). LeavesBy Send b new) (ap (λ (x : Seen _). x.state.machine) c.self.view_is) (rebased Send m (send_begun m n) new refl refl refl (subst (λ (i : EndCall). LeavesBy i (send_begun m n) new) call after))
-
-pub returns-clause-awake : goal.returns-clause-awake
-returns-clause-awake g c =
-    let call : call_at c.begin_send.new.self.machine.stage ≡ Send = ap (λ (m : EndMachine). call_at m.stage) c.begin_send.ensures.machine in
-    (c.make_call.ensures.after.awake (λ e. cc) (λ e. cc), c.make_call.ensures.after.unmarked (λ e. cc))
-
-pub returns-clause-len : goal.returns-clause-len
-returns-clause-len g c _ =
-    ap (λ (e : EndState). e.machine.len) c.make_call.ensures.left.ran.state
-    ∙ (send_len _ c.make_call.ensures.left.ran.values (ap (λ (m : EndMachine). m.stage) c.begin_send.ensures.machine) ∙ ap (λ (m : EndMachine). m.len) c.begin_send.ensures.machine)
+    let e = c.send-answer.ensures in
+    let whole = (c.is_stopped.ensures.not c.if-is_stopped.false).1 in
+    subst (λ (x : Seen _). n.pages ≡ cond (is_sent n.machine.ended) (pages_sent (layout x.state.pages.count) x.state.pages p) x.state.pages) c.self.view_is
+    (e.pages ∙ (ap (λ r. pages_by_send r p k) (e.ran.0 whole).0 ∙ pages_answered n.machine.ended n.machine k p))
 
 pub returns-clause-honest : goal.returns-clause-honest
-returns-clause-honest g c = λ u e.
-    let it = c.self.inside.parts in
-    let told = ap g.S.Seatlike.told (ap (λ (x : Seen _). x.seat) c.self.view_is) ∙ e in
-    let old = rests_at it.core.machine.stage c.self.invariant.rests (c.self.invariant.honest u told) in
-    let new = rests_at c.make_call.new.self.core.machine.stage c.make_call.ensures.idle ((c.make_call.ensures.left.ran.tells u told).1) in
-    let call = c.make_call.ensures.call ∙ ap (λ (m : EndMachine). call_at m.stage) c.begin_send.ensures.machine in (
-      sym (ap (λ (x : Seen _). x.state.machine.stage) c.self.view_is) ∙ old,
-      new,
-      ap is_honest_send c.send_answered.ensures ∙ honest_send c.make_call.new.self.core.machine.ended c.make_call.new.self.core.machine call (c.make_call.ensures.after.whole new),
+returns-clause-honest g c = λ u h.
+    let n = c.send-answer.new.self.driven.state in
+    let e = c.send-answer.ensures in
+    let whole = (c.is_stopped.ensures.not c.if-is_stopped.false).1 in
+    let told = ap g.S.Seatlike.told (ap (λ (x : Seen _). x.seat) c.self.view_is) ∙ h in
+    let rests = rests_at n.machine.stage c.stands-2.ensures.rests ((e.ran.0 whole).1.tells u told).1 in (
+      sym (ap (λ (x : Seen _). x.state.machine.stage) c.self.view_is) ∙ (c.is_stopped.ensures.not c.if-is_stopped.false).0,
+      rests,
+      ap is_honest_send (e.ran.0 whole).0 ∙ honest_send n.machine.ended n.machine (e.call whole) ((e.after whole).whole rests),
     )
 
-pub returns-clause-kept : goal.returns-clause-kept
-returns-clause-kept g c =
-    let call : call_at c.begin_send.new.self.machine.stage ≡ Send = ap (λ (m : EndMachine). call_at m.stage) c.begin_send.ensures.machine in
-    let same = c.make_call.ensures.got_kept (c.make_call.ensures.after.untaken (λ e. cc)) in (
-      ap (λ (l : Listed). l.list) same ∙ ap (λ (x : Seen _). x.state.got) c.self.view_is,
-      ap (λ (l : Listed). l.room) same ∙ ap (λ (x : Seen _). x.spare_got) c.self.view_is,
-    )
+pub returns-clause-same : goal.returns-clause-same
+returns-clause-same g c =
+    let n = c.send-answer.new.self.driven in
+    let e = c.send-answer.ensures in
+    let whole = (c.is_stopped.ensures.not c.if-is_stopped.false).1 in
+    subst (λ (x : Seen _). (g.S.Seatlike.same x.seat n.seat) × (n.state.machine.cells ≡ x.state.machine.cells) × (n.state.machine.side ≡ x.state.machine.side)) c.self.view_is (e.same.0, e.same.2, (e.leaves whole).side)
 
 pub returns-clause-room : goal.returns-clause-room
 returns-clause-room g c =
-    let it = c.self.inside.parts in
-    let ended = c.make_call.new.self.core.machine.ended in
-    let now : kept_of c.begin_send.new.self.pages it.sent it.got it.table ≡ c.args.self.now.state.pages =
-    ap (λ (k : PageCore). kept_of k it.sent it.got it.table) c.begin_send.ensures.pages ∙ ap (λ (x : Seen _). x.state.pages) c.self.view_is in
-    subst (λ (r : Room). SentRoom ended (length c.args.p.now + along c.args.self.now.state.pages c.args.p.now) r c.make_call.new.self.sent.room) (ap (λ (x : Seen _). x.spare_sent) c.self.view_is)
-    (subst (λ (k : Kept). SentRoom ended (length c.args.p.now + along k c.args.p.now) it.sent.room c.make_call.new.self.sent.room) now c.make_call.ensures.sent_room)
-
-pub returns-clause-count : goal.returns-clause-count
-returns-clause-count g c = c.make_call.ensures.count ∙ (ap (λ (k : PageCore). k.count) c.begin_send.ensures.pages ∙ ap (λ (x : Seen _). x.state.pages.count) c.self.view_is)
+    let m = c.send-answer.new.self.driven.state.machine in
+    let e = c.send-answer.ensures in
+    let k = c.keep_sent.ensures in
+    let whole = (c.is_stopped.ensures.not c.if-is_stopped.false).1 in
+    let went : c.is_ok-went.result ≡ is_sent m.ended = c.is_ok-went.ensures.value ∙ (ap is_ok (e.ran.0 whole).0 ∙ ok_sent m.ended m) in
+    let along_is = ap (λ (x : Seen _). along x.state.pages c.args.p.now) c.self.view_is in
+    record {
+      same = λ none. ap (λ (l : Listed). l.room) (k.kept (went ∙ none)) ∙ ap (λ (x : Seen _). x.spare_sent) c.self.view_is;
+      packets = omega (arith, k.room.0, ap (λ (x : Seen _). x.spare_sent.packets) c.self.view_is);
+      words = omega (arith, k.room.1, c.part_along-part.ensures.words, along_is, ap (λ (x : Seen _). x.spare_sent.words) c.self.view_is);
+    }
