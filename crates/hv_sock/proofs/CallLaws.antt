@@ -3,7 +3,7 @@ use Rattle.std.proofs.Common.{◌≡◌, ◌+◌, ◌⊎◌, inl, inr, ⊎_elim,
 use Rattle.ring_core.specs.declared.told.Told.{Told}
 use Rattle.ring_core.specs.Seen.{Seen}
 use Rattle.ring_core.specs.Taking.{Takes}
-use Rattle.ring_core.specs.Told.{Memory}
+use Rattle.ring_core.specs.Told.{Tale}
 use Rattle.ring_machine.specs.declared.last.SendRefusal.{SendRefusal}
 use Rattle.ring_machine.specs.declared.last.SendRefusal.TheVariants.{Full as SendFull, BadPeer as SendBadPeer, Stopped as StoppedSend}
 use Rattle.ring_machine.specs.declared.last.Signalled.{Signalled}
@@ -59,9 +59,9 @@ option_cases : {A : Type 0} (o : Option A) → (o ≡ None) ⊎ ((a : A) × (o �
 option_cases None = inl refl
 option_cases (Some a) = inr (a, refl)
 
-module _ {S : Type 0} (told : S → Option Told) (memory : S → Option Memory) (same : S → S → Type 0) where
+module _ {S : Type 0} (told : S → Option Told) (tale : S → Tale) (same : S → S → Type 0) where
   -- a take that was refused leaves what was got
-  pub refused_take : (old new : Seen S) (r : TakeRefusal) → is_busy_at old.state.machine.stage ≡ false → Takes S told memory same old new (Some r) → (new.state.got ≡ old.state.got) × (new.spare_got ≡ old.spare_got)
+  pub refused_take : (old new : Seen S) (r : TakeRefusal) → is_busy_at old.state.machine.stage ≡ false → Takes S told tale same old new (Some r) → (new.state.got ≡ old.state.got) × (new.spare_got ≡ old.spare_got)
   refused_take old new r rests takes = ⊎_elim idle stopped (rests_or_stopped old.state.machine.stage rests)
     where
       idle : old.state.machine.stage ≡ Idle → (new.state.got ≡ old.state.got) × (new.spare_got ≡ old.spare_got)
@@ -77,7 +77,7 @@ module _ {S : Type 0} (told : S → Option Told) (memory : S → Option Memory) 
           (ap (λ (x : Seen S). x.state.got) is, ap (λ (x : Seen S). x.spare_got) is)
 
   -- one that gave a packet leaves the end between two calls, and not stopped
-  pub took_rests : (old new : Seen S) → is_busy_at old.state.machine.stage ≡ false → Takes S told memory same old new None → new.state.machine.stage ≡ Idle
+  pub took_rests : (old new : Seen S) → is_busy_at old.state.machine.stage ≡ false → Takes S told tale same old new None → new.state.machine.stage ≡ Idle
   took_rests old new rests takes = ⊎_elim idle stopped (rests_or_stopped old.state.machine.stage rests)
     where
       idle : old.state.machine.stage ≡ Idle → new.state.machine.stage ≡ Idle
@@ -89,7 +89,7 @@ module _ {S : Type 0} (told : S → Option Told) (memory : S → Option Memory) 
       stopped : old.state.machine.stage ≡ Stopped → new.state.machine.stage ≡ Idle
       stopped h = let no = (takes.stopped h).0 in absurd (cc)
 
-  pub refused_away : (old new : Seen S) (r : TakeRefusal) → is_busy_at old.state.machine.stage ≡ false → Takes S told memory same old new (Some r) → TakesAway S told memory same old new (Some r)
+  pub refused_away : (old new : Seen S) (r : TakeRefusal) → is_busy_at old.state.machine.stage ≡ false → Takes S told tale same old new (Some r) → TakesAway S told tale same old new (Some r)
   refused_away old new r rests takes = record {
     between = new;
     takes = takes;
@@ -98,7 +98,7 @@ module _ {S : Type 0} (told : S → Option Told) (memory : S → Option Memory) 
   }
 
   -- what the end keeps beside its lists after a send
-  pub sent_rests : (p : List ℕ) (old new : Seen S) (result : Result Signalled SendRefusal) → is_busy_at old.state.machine.stage ≡ false → Sends S told memory same p old new result → is_busy_at new.state.machine.stage ≡ false
+  pub sent_rests : (p : List ℕ) (old new : Seen S) (result : Result Signalled SendRefusal) → is_busy_at old.state.machine.stage ≡ false → Sends S told tale same p old new result → is_busy_at new.state.machine.stage ≡ false
   sent_rests p old new result rests sends = ⊎_elim idle stopped (rests_or_stopped old.state.machine.stage rests)
     where
       idle : old.state.machine.stage ≡ Idle → is_busy_at new.state.machine.stage ≡ false
@@ -107,7 +107,7 @@ module _ {S : Type 0} (told : S → Option Told) (memory : S → Option Memory) 
       stopped : old.state.machine.stage ≡ Stopped → is_busy_at new.state.machine.stage ≡ false
       stopped h = ap (λ (x : Seen S). is_busy_at x.state.machine.stage) (sends.stopped h).1 ∙ rests
 
-  pub sent_committed : (p : List ℕ) (old new : Seen S) (result : Result Signalled SendRefusal) → is_busy_at old.state.machine.stage ≡ false → Sends S told memory same p old new result → old.state.machine.start ≡ old.state.machine.read → new.state.machine.start ≡ new.state.machine.read
+  pub sent_committed : (p : List ℕ) (old new : Seen S) (result : Result Signalled SendRefusal) → is_busy_at old.state.machine.stage ≡ false → Sends S told tale same p old new result → old.state.machine.start ≡ old.state.machine.read → new.state.machine.start ≡ new.state.machine.read
   sent_committed p old new result rests sends committed = ⊎_elim idle stopped (rests_or_stopped old.state.machine.stage rests)
     where
       idle : old.state.machine.stage ≡ Idle → new.state.machine.start ≡ new.state.machine.read
@@ -117,7 +117,7 @@ module _ {S : Type 0} (told : S → Option Told) (memory : S → Option Memory) 
       stopped h = ap (λ (x : Seen S). x.state.machine.start) (sends.stopped h).1 ∙ (committed ∙ sym (ap (λ (x : Seen S). x.state.machine.read) (sends.stopped h).1))
 
   -- a read of a stream that can go on: what it leaves of the stream, by its answer
-  pub read_stream : (old new : Seen S) (result : Result Got SockFault) (out out' : List ℕ) → IsOpen old.state.got → Reads S told memory same old new result out out' → stream_of new.state.got ≡ stream_of old.state.got ++ bytes_read result out'
+  pub read_stream : (old new : Seen S) (result : Result Got SockFault) (out out' : List ℕ) → IsOpen old.state.got → Reads S told tale same old new result out out' → stream_of new.state.got ≡ stream_of old.state.got ++ bytes_read result out'
   read_stream old new result out out' can r = ⊎_elim took refused (option_cases r.refusal)
     where
       took : r.refusal ≡ None → stream_of new.state.got ≡ stream_of old.state.got ++ bytes_read result out'
@@ -132,7 +132,7 @@ module _ {S : Type 0} (told : S → Option Told) (memory : S → Option Memory) 
           ap stream_of (r.takes.refused q.0 q.1).1
           ∙ (sym (append-nil (stream_of old.state.got)) ∙ ap (λ (x : Result Got SockFault). stream_of old.state.got ++ bytes_read x out') (sym (r.refused q.0 q.1).0))
 
-  pub read_closed : (old new : Seen S) (result : Result Got SockFault) (out out' : List ℕ) → IsOpen old.state.got → Reads S told memory same old new result out out' → is_closed new.state.got ≡ closes result
+  pub read_closed : (old new : Seen S) (result : Result Got SockFault) (out out' : List ℕ) → IsOpen old.state.got → Reads S told tale same old new result out out' → is_closed new.state.got ≡ closes result
   read_closed old new result out out' can r = ⊎_elim took refused (option_cases r.refusal)
     where
       took : r.refusal ≡ None → is_closed new.state.got ≡ closes result
@@ -143,7 +143,7 @@ module _ {S : Type 0} (told : S → Option Told) (memory : S → Option Memory) 
       refused : ((q : TakeRefusal) × (r.refusal ≡ Some q)) → is_closed new.state.got ≡ closes result
       refused q = ap is_closed (r.takes.refused q.0 q.1).1 ∙ (can.unclosed ∙ ap closes (sym (r.refused q.0 q.1).0))
 
-  pub read_fault : (old new : Seen S) (result : Result Got SockFault) (out out' : List ℕ) → IsOpen old.state.got → Reads S told memory same old new result out out' → fault_in new.state.got ≡ breaks_off result
+  pub read_fault : (old new : Seen S) (result : Result Got SockFault) (out out' : List ℕ) → IsOpen old.state.got → Reads S told tale same old new result out out' → fault_in new.state.got ≡ breaks_off result
   read_fault old new result out out' can r = ⊎_elim took refused (option_cases r.refusal)
     where
       took : r.refusal ≡ None → fault_in new.state.got ≡ breaks_off result
@@ -155,7 +155,7 @@ module _ {S : Type 0} (told : S → Option Told) (memory : S → Option Memory) 
       refused q = ap fault_in (r.takes.refused q.0 q.1).1 ∙ (can.whole ∙ ap breaks_off (sym (r.refused q.0 q.1).0))
 
   -- and what the end keeps beside its lists
-  refused_rests : (old new : Seen S) (q : TakeRefusal) → is_busy_at old.state.machine.stage ≡ false → Takes S told memory same old new (Some q) → old.state.machine.start ≡ old.state.machine.read → (is_busy_at new.state.machine.stage ≡ false) × (new.state.machine.start ≡ new.state.machine.read)
+  refused_rests : (old new : Seen S) (q : TakeRefusal) → is_busy_at old.state.machine.stage ≡ false → Takes S told tale same old new (Some q) → old.state.machine.start ≡ old.state.machine.read → (is_busy_at new.state.machine.stage ≡ false) × (new.state.machine.start ≡ new.state.machine.read)
   refused_rests old new q rests takes committed = ⊎_elim idle stopped (rests_or_stopped old.state.machine.stage rests)
     where
       idle : old.state.machine.stage ≡ Idle → (is_busy_at new.state.machine.stage ≡ false) × (new.state.machine.start ≡ new.state.machine.read)
@@ -171,7 +171,7 @@ module _ {S : Type 0} (told : S → Option Told) (memory : S → Option Memory) 
           let is = (takes.stopped h).1 in
           (ap (λ (x : Seen S). is_busy_at x.state.machine.stage) is ∙ rests, ap (λ (x : Seen S). x.state.machine.start) is ∙ (committed ∙ sym (ap (λ (x : Seen S). x.state.machine.read) is)))
 
-  pub read_rests : (old new : Seen S) (refusal : Option TakeRefusal) → is_busy_at old.state.machine.stage ≡ false → TakesAway S told memory same old new refusal → old.state.machine.start ≡ old.state.machine.read → (is_busy_at new.state.machine.stage ≡ false) × (new.state.machine.start ≡ new.state.machine.read)
+  pub read_rests : (old new : Seen S) (refusal : Option TakeRefusal) → is_busy_at old.state.machine.stage ≡ false → TakesAway S told tale same old new refusal → old.state.machine.start ≡ old.state.machine.read → (is_busy_at new.state.machine.stage ≡ false) × (new.state.machine.start ≡ new.state.machine.read)
   read_rests old new (Some q) rests away committed =
       let is = (away.refused q refl).0 in
       let b = refused_rests old away.between q rests away.takes committed in
@@ -180,7 +180,7 @@ module _ {S : Type 0} (told : S → Option Told) (memory : S → Option Memory) 
       let a = (away.commits refl).after in
       (ap is_busy_at (a.idle (λ e. cc) (λ e. cc)), a.committed refl)
 
-  pub read_kept : (old new : Seen S) (refusal : Option TakeRefusal) → TakesAway S told memory same old new refusal → (new.state.sent ≡ old.state.sent) × (new.state.machine.cells ≡ old.state.machine.cells)
+  pub read_kept : (old new : Seen S) (refusal : Option TakeRefusal) → TakesAway S told tale same old new refusal → (new.state.sent ≡ old.state.sent) × (new.state.machine.cells ≡ old.state.machine.cells)
   read_kept old new (Some q) away =
       let is = (away.refused q refl).0 in
       let t = away.takes in
@@ -191,7 +191,7 @@ module _ {S : Type 0} (told : S → Option Told) (memory : S → Option Memory) 
       (a.kept.sent ∙ t.kept.0, a.leaves.cells ∙ t.cells)
 
   -- the end of a socket stands over the end of the channel behind a read
-  pub read_stands : (old new : Seen S) (result : Result Got SockFault) (out out' : List ℕ) (shut ended : Bool) (fault : Option SockFault) → IsSock old shut ended fault → IsOpen old.state.got → Reads S told memory same old new result out out' → new.state.pages.count ≡ 0
+  pub read_stands : (old new : Seen S) (result : Result Got SockFault) (out out' : List ℕ) (shut ended : Bool) (fault : Option SockFault) → IsSock old shut ended fault → IsOpen old.state.got → Reads S told tale same old new result out out' → new.state.pages.count ≡ 0
       → IsSock new shut (closes result) (breaks_off result)
   read_stands old new result out out' shut ended fault s can r bare =
       let kept = read_kept old new r.refusal r.takes in
@@ -207,7 +207,7 @@ module _ {S : Type 0} (told : S → Option Told) (memory : S → Option Memory) 
       }
 
   -- a packet went, or it didn't
-  pub sent_or_not : (p : List ℕ) (old new : Seen S) (result : Result Signalled SendRefusal) → is_busy_at old.state.machine.stage ≡ false → Sends S told memory same p old new result
+  pub sent_or_not : (p : List ℕ) (old new : Seen S) (result : Result Signalled SendRefusal) → is_busy_at old.state.machine.stage ≡ false → Sends S told tale same p old new result
       → ((s : Signalled) × (result ≡ Ok s) × (new.state.sent ≡ old.state.sent ++ p ∷ [])) ⊎ ((e : SendRefusal) × (result ≡ Err e) × (new.state.sent ≡ old.state.sent) × (new.spare_sent ≡ old.spare_sent))
   sent_or_not p old new result rests sends = ⊎_elim idle stopped (rests_or_stopped old.state.machine.stage rests)
     where
@@ -229,7 +229,7 @@ module _ {S : Type 0} (told : S → Option Told) (memory : S → Option Memory) 
           let t = sends.stopped h in
           inr (StoppedSend (why_of old.state.machine), t.0, ap (λ (x : Seen S). x.state.sent) t.1, ap (λ (x : Seen S). x.spare_sent) t.1)
 
-  pub sent_stands : (p : List ℕ) (old new : Seen S) (result : Result Signalled SendRefusal) (shut shut' ended : Bool) (fault : Option SockFault) → IsSock old shut ended fault → Sends S told memory same p old new result → new.state.pages.count ≡ 0
+  pub sent_stands : (p : List ℕ) (old new : Seen S) (result : Result Signalled SendRefusal) (shut shut' ended : Bool) (fault : Option SockFault) → IsSock old shut ended fault → Sends S told tale same p old new result → new.state.pages.count ≡ 0
       → shut' ≡ is_closed new.state.sent → fault_in new.state.sent ≡ None → IsSock new shut' ended fault
   sent_stands p old new result shut shut' ended fault s sends bare closed whole = record {
     shut_is = closed;
@@ -243,7 +243,7 @@ module _ {S : Type 0} (told : S → Option Told) (memory : S → Option Memory) 
   }
 
   -- what a send of a packet that says so leaves of a stream that wasn't closed
-  pub sent_whole : (p : List ℕ) (old new : Seen S) (result : Result Signalled SendRefusal) → is_busy_at old.state.machine.stage ≡ false → Sends S told memory same p old new result → IsOpen old.state.sent → fault_by (says p) None ≡ None → fault_in new.state.sent ≡ None
+  pub sent_whole : (p : List ℕ) (old new : Seen S) (result : Result Signalled SendRefusal) → is_busy_at old.state.machine.stage ≡ false → Sends S told tale same p old new result → IsOpen old.state.sent → fault_by (says p) None ≡ None → fault_in new.state.sent ≡ None
   sent_whole p old new result rests sends can none = ⊎_elim ok no (sent_or_not p old new result rests sends)
     where
       ok : ((s : Signalled) × (result ≡ Ok s) × (new.state.sent ≡ old.state.sent ++ p ∷ [])) → fault_in new.state.sent ≡ None
@@ -252,7 +252,7 @@ module _ {S : Type 0} (told : S → Option Told) (memory : S → Option Memory) 
       no : ((e : SendRefusal) × (result ≡ Err e) × (new.state.sent ≡ old.state.sent) × (new.spare_sent ≡ old.spare_sent)) → fault_in new.state.sent ≡ None
       no t = ap fault_in t.2 ∙ can.whole
 
-  pub sent_open : (p bytes : List ℕ) (old new : Seen S) (result : Result Signalled SendRefusal) → is_busy_at old.state.machine.stage ≡ false → Sends S told memory same p old new result → IsOpen old.state.sent → says p ≡ Data bytes → is_closed new.state.sent ≡ false
+  pub sent_open : (p bytes : List ℕ) (old new : Seen S) (result : Result Signalled SendRefusal) → is_busy_at old.state.machine.stage ≡ false → Sends S told tale same p old new result → IsOpen old.state.sent → says p ≡ Data bytes → is_closed new.state.sent ≡ false
   sent_open p bytes old new result rests sends can is = ⊎_elim ok no (sent_or_not p old new result rests sends)
     where
       ok : ((s : Signalled) × (result ≡ Ok s) × (new.state.sent ≡ old.state.sent ++ p ∷ [])) → is_closed new.state.sent ≡ false
@@ -261,7 +261,7 @@ module _ {S : Type 0} (told : S → Option Told) (memory : S → Option Memory) 
       no : ((e : SendRefusal) × (result ≡ Err e) × (new.state.sent ≡ old.state.sent) × (new.spare_sent ≡ old.spare_sent)) → is_closed new.state.sent ≡ false
       no t = ap is_closed t.2 ∙ can.unclosed
 
-  pub sent_stream : (p bytes : List ℕ) (old new : Seen S) (result : Result Signalled SendRefusal) → is_busy_at old.state.machine.stage ≡ false → Sends S told memory same p old new result → IsOpen old.state.sent → says p ≡ Data bytes → OnOk result (stream_of new.state.sent ≡ stream_of old.state.sent ++ bytes)
+  pub sent_stream : (p bytes : List ℕ) (old new : Seen S) (result : Result Signalled SendRefusal) → is_busy_at old.state.machine.stage ≡ false → Sends S told tale same p old new result → IsOpen old.state.sent → says p ≡ Data bytes → OnOk result (stream_of new.state.sent ≡ stream_of old.state.sent ++ bytes)
   sent_stream p bytes old new result rests sends can is = ⊎_elim ok no (sent_or_not p old new result rests sends)
     where
       ok : ((s : Signalled) × (result ≡ Ok s) × (new.state.sent ≡ old.state.sent ++ p ∷ [])) → OnOk result (stream_of new.state.sent ≡ stream_of old.state.sent ++ bytes)
@@ -273,7 +273,7 @@ module _ {S : Type 0} (told : S → Option Told) (memory : S → Option Memory) 
       no t = subst (λ (r : Result Signalled SendRefusal). OnOk r (stream_of new.state.sent ≡ stream_of old.state.sent ++ bytes)) (sym t.1) tt
 
   -- and of one that ends the direction
-  pub ended_stream : (p : List ℕ) (old new : Seen S) (result : Result Signalled SendRefusal) → is_busy_at old.state.machine.stage ≡ false → Sends S told memory same p old new result → IsOpen old.state.sent → says p ≡ Close → stream_of new.state.sent ≡ stream_of old.state.sent
+  pub ended_stream : (p : List ℕ) (old new : Seen S) (result : Result Signalled SendRefusal) → is_busy_at old.state.machine.stage ≡ false → Sends S told tale same p old new result → IsOpen old.state.sent → says p ≡ Close → stream_of new.state.sent ≡ stream_of old.state.sent
   ended_stream p old new result rests sends can is = ⊎_elim ok no (sent_or_not p old new result rests sends)
     where
       ok : ((s : Signalled) × (result ≡ Ok s) × (new.state.sent ≡ old.state.sent ++ p ∷ [])) → stream_of new.state.sent ≡ stream_of old.state.sent
@@ -282,7 +282,7 @@ module _ {S : Type 0} (told : S → Option Told) (memory : S → Option Memory) 
       no : ((e : SendRefusal) × (result ≡ Err e) × (new.state.sent ≡ old.state.sent) × (new.spare_sent ≡ old.spare_sent)) → stream_of new.state.sent ≡ stream_of old.state.sent
       no t = ap stream_of t.2
 
-  pub ended_closed : (p : List ℕ) (old new : Seen S) (result : Result Signalled SendRefusal) → is_busy_at old.state.machine.stage ≡ false → Sends S told memory same p old new result → IsOpen old.state.sent → says p ≡ Close → is_closed new.state.sent ≡ is_ok result
+  pub ended_closed : (p : List ℕ) (old new : Seen S) (result : Result Signalled SendRefusal) → is_busy_at old.state.machine.stage ≡ false → Sends S told tale same p old new result → IsOpen old.state.sent → says p ≡ Close → is_closed new.state.sent ≡ is_ok result
   ended_closed p old new result rests sends can is = ⊎_elim ok no (sent_or_not p old new result rests sends)
     where
       ok : ((s : Signalled) × (result ≡ Ok s) × (new.state.sent ≡ old.state.sent ++ p ∷ [])) → is_closed new.state.sent ≡ is_ok result
@@ -291,7 +291,7 @@ module _ {S : Type 0} (told : S → Option Told) (memory : S → Option Memory) 
       no : ((e : SendRefusal) × (result ≡ Err e) × (new.state.sent ≡ old.state.sent) × (new.spare_sent ≡ old.spare_sent)) → is_closed new.state.sent ≡ is_ok result
       no t = ap is_closed t.2 ∙ (can.unclosed ∙ ap is_ok (sym t.1))
 
-  pub sent_ok : (p : List ℕ) (old new : Seen S) (result : Result Signalled SendRefusal) → is_busy_at old.state.machine.stage ≡ false → Sends S told memory same p old new result → OnOk result (new.state.sent ≡ old.state.sent ++ p ∷ [])
+  pub sent_ok : (p : List ℕ) (old new : Seen S) (result : Result Signalled SendRefusal) → is_busy_at old.state.machine.stage ≡ false → Sends S told tale same p old new result → OnOk result (new.state.sent ≡ old.state.sent ++ p ∷ [])
   sent_ok p old new result rests sends = ⊎_elim ok no (sent_or_not p old new result rests sends)
     where
       ok : ((s : Signalled) × (result ≡ Ok s) × (new.state.sent ≡ old.state.sent ++ p ∷ [])) → OnOk result (new.state.sent ≡ old.state.sent ++ p ∷ [])
@@ -300,7 +300,7 @@ module _ {S : Type 0} (told : S → Option Told) (memory : S → Option Memory) 
       no : ((e : SendRefusal) × (result ≡ Err e) × (new.state.sent ≡ old.state.sent) × (new.spare_sent ≡ old.spare_sent)) → OnOk result (new.state.sent ≡ old.state.sent ++ p ∷ [])
       no t = subst (λ (r : Result Signalled SendRefusal). OnOk r (new.state.sent ≡ old.state.sent ++ p ∷ [])) (sym t.1) tt
 
-  pub sent_err : (p : List ℕ) (old new : Seen S) (result : Result Signalled SendRefusal) → is_busy_at old.state.machine.stage ≡ false → Sends S told memory same p old new result → OnErr result ((new.state.sent ≡ old.state.sent) × (new.spare_sent ≡ old.spare_sent))
+  pub sent_err : (p : List ℕ) (old new : Seen S) (result : Result Signalled SendRefusal) → is_busy_at old.state.machine.stage ≡ false → Sends S told tale same p old new result → OnErr result ((new.state.sent ≡ old.state.sent) × (new.spare_sent ≡ old.spare_sent))
   sent_err p old new result rests sends = ⊎_elim ok no (sent_or_not p old new result rests sends)
     where
       ok : ((s : Signalled) × (result ≡ Ok s) × (new.state.sent ≡ old.state.sent ++ p ∷ [])) → OnErr result ((new.state.sent ≡ old.state.sent) × (new.spare_sent ≡ old.spare_sent))

@@ -2,7 +2,7 @@
 use Rattle.std.specs.Prelude.{◌≡◌, ℕ, ◌≤◌, Bool, true, false, List, [], ◌∷◌, ◌++◌, length, Option, Some, None, Result, Err}
 use Rattle.ring_core.specs.Seen.{Seen, Kept, SentRoom}
 use Rattle.ring_core.specs.Taking.{Takes}
-use Rattle.ring_core.specs.Told.{Memory, MakesSteps}
+use Rattle.ring_core.specs.Told.{MakesSteps, Tale}
 use Rattle.ring_core.specs.declared.told.Told.{Told}
 use Rattle.ring_machine.specs.declared.last.SendRefusal.{SendRefusal}
 use Rattle.ring_machine.specs.declared.last.SendRefusal.TheVariants.{Stopped as StoppedSend}
@@ -32,8 +32,8 @@ pub record IsSock {S : Type 0} (e : Seen S) (shut ended : Bool) (fault : Option 
   pub bare : e.state.pages.count ≡ 0
 
 -- a send of this packet by an end that isn't stopped
-pub record SendsIdle (S : Type 0) (told : S → Option Told) (memory : S → Option Memory) (p : List ℕ) (old new : Seen S) (result : Result Signalled SendRefusal) : Type 0 where
-  pub ran : MakesSteps told memory (send_begun old.state.machine (length p)) p old new
+pub record SendsIdle (S : Type 0) (told : S → Option Told) (tale : S → Tale) (p : List ℕ) (old new : Seen S) (result : Result Signalled SendRefusal) : Type 0 where
+  pub ran : MakesSteps told tale (send_begun old.state.machine (length p)) p old new
   pub answer : result ≡ send_answer new.state.machine.ended new.state.machine
   pub call : call_by new.state.machine.ended ≡ Send
   pub leaves : Leaves old.state.machine new.state.machine
@@ -44,8 +44,8 @@ pub record SendsIdle (S : Type 0) (told : S → Option Told) (memory : S → Opt
   pub pages : new.state.pages ≡ old.state.pages
 
 -- What a send of this packet leaves: a stopped end refuses, and nothing is changed. Where the seat tells the end's state, the packet goes or finds no room
-pub record Sends (S : Type 0) (told : S → Option Told) (memory : S → Option Memory) (same : S → S → Type 0) (p : List ℕ) (old new : Seen S) (result : Result Signalled SendRefusal) : Type 0 where
-  pub idle : old.state.machine.stage ≡ Idle → SendsIdle S told memory p old new result
+pub record Sends (S : Type 0) (told : S → Option Told) (tale : S → Tale) (same : S → S → Type 0) (p : List ℕ) (old new : Seen S) (result : Result Signalled SendRefusal) : Type 0 where
+  pub idle : old.state.machine.stage ≡ Idle → SendsIdle S told tale p old new result
   pub stopped : old.state.machine.stage ≡ Stopped → (result ≡ Err (StoppedSend (why_of old.state.machine))) × (new ≡ old)
   pub honest : (u : Told) → told old.seat ≡ Some u → (old.state.machine.stage ≡ Idle) × (new.state.machine.stage ≡ Idle) × (is_honest_send result ≡ true)
   pub same_seat : same old.seat new.seat
@@ -56,8 +56,8 @@ pub record Sends (S : Type 0) (told : S → Option Told) (memory : S → Option 
   pub room : SentRoom new.state.machine.ended (length p) old.spare_sent new.spare_sent
 
 -- a commit
-pub record Commits (S : Type 0) (told : S → Option Told) (memory : S → Option Memory) (same : S → S → Type 0) (old new : Seen S) : Type 0 where
-  pub ran : MakesSteps told memory (commit_begun old.state.machine) [] old new
+pub record Commits (S : Type 0) (told : S → Option Told) (tale : S → Tale) (same : S → S → Type 0) (old new : Seen S) : Type 0 where
+  pub ran : MakesSteps told tale (commit_begun old.state.machine) [] old new
   pub call : call_by new.state.machine.ended ≡ Commit
   pub leaves : Leaves old.state.machine new.state.machine
   pub after : LeavesBy Commit old.state.machine new.state.machine
@@ -66,11 +66,11 @@ pub record Commits (S : Type 0) (told : S → Option Told) (memory : S → Optio
   pub kept : Kept old new
 
 -- A take, and a commit behind it where it gave a packet, and no other step: the end between the two, and how the take was refused
-pub record TakesAway (S : Type 0) (told : S → Option Told) (memory : S → Option Memory) (same : S → S → Type 0) (old new : Seen S) (refusal : Option TakeRefusal) : Type 0 where
+pub record TakesAway (S : Type 0) (told : S → Option Told) (tale : S → Tale) (same : S → S → Type 0) (old new : Seen S) (refusal : Option TakeRefusal) : Type 0 where
   pub between : Seen S
-  pub takes : Takes S told memory same old between refusal
+  pub takes : Takes S told tale same old between refusal
   pub refused : (r : TakeRefusal) → refusal ≡ Some r → (new ≡ between) × (new.state.got ≡ old.state.got) × (new.spare_got ≡ old.spare_got)
-  pub commits : refusal ≡ None → Commits S told memory same between new
+  pub commits : refusal ≡ None → Commits S told tale same between new
 
 -- the packet that a read got decides what it answers, and what it leaves of the buffer
 pub record GotPacket {S : Type 0} (old new : Seen S) (result : Result Got SockFault) (out out' : List ℕ) : Type 0 where
@@ -81,8 +81,8 @@ pub record GotPacket {S : Type 0} (old new : Seen S) (result : Result Got SockFa
   pub out_is : out' ≡ left_in (says packet) out
 
 -- a read of a stream that can go on: it is refused where the take is, and else gives what the packet says
-pub record Reads (S : Type 0) (told : S → Option Told) (memory : S → Option Memory) (same : S → S → Type 0) (old new : Seen S) (result : Result Got SockFault) (out out' : List ℕ) : Type 0 where
+pub record Reads (S : Type 0) (told : S → Option Told) (tale : S → Tale) (same : S → S → Type 0) (old new : Seen S) (result : Result Got SockFault) (out out' : List ℕ) : Type 0 where
   pub refusal : Option TakeRefusal
-  pub takes : TakesAway S told memory same old new refusal
+  pub takes : TakesAway S told tale same old new refusal
   pub refused : (r : TakeRefusal) → refusal ≡ Some r → (result ≡ Err (Take r)) × (out' ≡ out)
   pub read : refusal ≡ None → GotPacket old new result out out'

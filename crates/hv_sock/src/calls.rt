@@ -20,7 +20,7 @@ pub(crate) fn send_packet<S: Seatlike>(
     requires packet { IsPacket p.now × (length p.now + 1 < end.old.state.machine.cells) }
     requires bare { end.old.state.pages.count ≡ 0 }
     requires room { (0 < end.old.spare_sent.packets) × (length p.now ≤ end.old.spare_sent.words) }
-    ensures sends { Sends S S.told S.memory S.same p.now end.old end.new result }
+    ensures sends { Sends S S.told S.tale S.same p.now end.old end.new result }
     ensures bare { end.new.state.pages.count ≡ 0 }
 {
     end.send(p)
@@ -31,7 +31,7 @@ fn give_back<S: Seatlike>(end: &mut End<S>)
     requires idle { end.old.state.machine.stage ≡ Idle }
     requires awake { (end.old.state.machine.asleep ≡ false) × (end.old.state.machine.marked ≡ false) }
     requires bare { end.old.state.pages.count ≡ 0 }
-    ensures commits { Commits S S.told S.memory S.same end.old end.new }
+    ensures commits { Commits S S.told S.tale S.same end.old end.new }
     ensures bare { end.new.state.pages.count ≡ 0 }
 {
     end.commit();
@@ -43,7 +43,7 @@ fn take_packet<S: Seatlike>(end: &mut End<S>) -> Result<(), TakeRefusal>
     requires awake { (end.old.state.machine.asleep ≡ false) × (end.old.state.machine.marked ≡ false) }
     requires bare { end.old.state.pages.count ≡ 0 }
     requires room { (0 < end.old.spare_got.packets) × (end.old.state.machine.cells ≤ end.old.spare_got.words) }
-    ensures takes { TakesAway S S.told S.memory S.same end.old end.new (refused result) }
+    ensures takes { TakesAway S S.told S.tale S.same end.old end.new (refused result) }
     ensures took { refused result ≡ None → (p : List ℕ) × IsPacket p × (end.new.state.got ≡ end.old.state.got ++ p ∷ []) }
     ensures bare { end.new.state.pages.count ≡ 0 }
 {
@@ -77,7 +77,7 @@ pub(crate) fn read_next<S: Seatlike>(
     requires awake { (end.old.state.machine.asleep ≡ false) × (end.old.state.machine.marked ≡ false) }
     requires bare { end.old.state.pages.count ≡ 0 }
     requires room { (0 < end.old.spare_got.packets) × (end.old.state.machine.cells ≤ end.old.spare_got.words) }
-    ensures reads { Reads S S.told S.memory S.same end.old end.new result out.old out.new }
+    ensures reads { Reads S S.told S.tale S.same end.old end.new result out.old out.new }
     ensures bare { end.new.state.pages.count ≡ 0 }
 {
     match take_packet(end) {

@@ -132,7 +132,7 @@ impl<S: Seatlike> SockEnd<S> {
         requires awake { self.old.state.machine.asleep ≡ false }
         requires unmarked { self.old.state.machine.marked ≡ false }
         requires room { (0 < self.old.spare_sent.packets) × (3 + words_for (length bytes.now) ≤ self.old.spare_sent.words) }
-        ensures sends { Sends S S.told S.memory S.same (sock_packet bytes.now) self.old self.new result }
+        ensures sends { Sends S S.told S.tale S.same (sock_packet bytes.now) self.old self.new result }
         ensures sent { OnOk result (self.new.state.sent ≡ self.old.state.sent ++ sock_packet bytes.now ∷ []) }
         ensures unsent { OnErr result ((self.new.state.sent ≡ self.old.state.sent) × (self.new.spare_sent ≡ self.old.spare_sent)) }
         ensures stream { OnOk result (stream_of self.new.state.sent ≡ stream_of self.old.state.sent ++ bytes.now) }
@@ -150,7 +150,7 @@ impl<S: Seatlike> SockEnd<S> {
         requires awake { self.old.state.machine.asleep ≡ false }
         requires unmarked { self.old.state.machine.marked ≡ false }
         requires room { (0 < self.old.spare_sent.packets) × (3 ≤ self.old.spare_sent.words) }
-        ensures sends { Sends S S.told S.memory S.same (sock_packet []) self.old self.new result }
+        ensures sends { Sends S S.told S.tale S.same (sock_packet []) self.old self.new result }
         ensures sent { OnOk result (self.new.state.sent ≡ self.old.state.sent ++ sock_packet [] ∷ []) }
         ensures unsent { OnErr result ((self.new.state.sent ≡ self.old.state.sent) × (self.new.spare_sent ≡ self.old.spare_sent)) }
         ensures stream { stream_of self.new.state.sent ≡ stream_of self.old.state.sent }
@@ -171,7 +171,7 @@ impl<S: Seatlike> SockEnd<S> {
         requires room { (0 < self.old.spare_got.packets) × (self.old.state.machine.cells ≤ self.old.spare_got.words) }
         ensures ended { is_closed self.old.state.got ≡ true → (result ≡ Err Ended) × (self.new ≡ self.old) × (out.new ≡ out.old) }
         ensures broken { (f : Fault) → fault_in self.old.state.got ≡ Some f → (result ≡ Err f) × (self.new ≡ self.old) × (out.new ≡ out.old) }
-        ensures reads { IsOpen self.old.state.got → Reads S S.told S.memory S.same self.old self.new result out.old out.new }
+        ensures reads { IsOpen self.old.state.got → Reads S S.told S.tale S.same self.old self.new result out.old out.new }
         ensures stream { stream_of self.new.state.got ≡ stream_of self.old.state.got ++ bytes_read result out.new }
         ensures closed { is_closed self.new.state.got ≡ closes result }
         ensures fault { fault_in self.new.state.got ≡ breaks_off result }
@@ -200,7 +200,7 @@ impl<S: Seatlike> SockEnd<S> {
         requires awake { self.old.state.machine.asleep ≡ false }
         requires unmarked { self.old.state.machine.marked ≡ false }
         requires want { IsWant self.old.state.machine.cells want }
-        ensures ran { MakesSteps S.told S.memory (arm_begun self.old.state.machine (want_of want)) [] self.old self.new }
+        ensures ran { MakesSteps S.told S.tale (arm_begun self.old.state.machine (want_of want)) [] self.old self.new }
         ensures answer { (is_asleep result ≡ self.new.state.machine.asleep) × (call_by self.new.state.machine.ended ≡ Arm) }
         ensures leaves { Leaves self.old.state.machine self.new.state.machine }
         ensures after { LeavesBy Arm self.old.state.machine self.new.state.machine }
@@ -215,7 +215,7 @@ impl<S: Seatlike> SockEnd<S> {
     pub fn poll_signal(&mut self) -> bool
         requires idle { self.old.state.machine.stage ≡ Idle }
         requires asleep { self.old.state.machine.asleep ≡ true }
-        ensures ran { MakesSteps S.told S.memory (poll_begun self.old.state.machine) [] self.old self.new }
+        ensures ran { MakesSteps S.told S.tale (poll_begun self.old.state.machine) [] self.old self.new }
         ensures answer { (result ≡ not self.new.state.machine.asleep) × (call_by self.new.state.machine.ended ≡ Poll) }
         ensures leaves { Leaves self.old.state.machine self.new.state.machine }
         ensures after { LeavesBy Poll self.old.state.machine self.new.state.machine }

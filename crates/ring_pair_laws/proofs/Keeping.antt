@@ -15,7 +15,7 @@ use Rattle.ring_machine.specs.Places.{out_of, in_of, peer_of, mark_of, words_of}
 use Rattle.ring_machine.specs.Steps.{IsSound, fed, is_copying_at, next_at, next_of, is_busy_at, send_begun, take_begun, commit_begun, arm_begun, poll_begun, mark_begun, peer_mark_begun}
 use Rattle.ring_machine.specs.States.{after, entered, kept_at, copied_at, copied_after, Begins, BeginsSend, BeginsTake, BeginsCommit, BeginsArm, BeginsPoll, BeginsMark, BeginsPeerMark}
 use Rattle.ring_core.specs.declared.told.Told.{Told}
-use Rattle.ring_core.specs.Told.{Memory, Pair, pair, step, step_by, run, written, answer_in, Ran}
+use Rattle.ring_core.specs.Told.{Memory, Pair, pair, step, step_by, run, written, answer_in, Ran, Tale, tells_memory}
 use Rattle.ring_pair_laws.specs.Ring.{size, RingOk, PastOk, Fits, ChannelOk, Sending_at, Taking_at, ring_in, is_marked, is_marking_at}
 use Rattle.ring_pair_laws.proofs.Frame.{Tells, Rests, producer_same, consumer_same, past_kept, no_rest, tells_at, calm_sending, calm_taking, is_calm_at}
 use Rattle.ring_machine.proofs.Sound.{fed_sound}
@@ -249,9 +249,9 @@ module _ (n : ℕ) (x : Side) (ws : List ℕ) (e p : EndState) (b : Both n x ws 
 
 -- a call of an end on the channel's words
 pub call_keeps : (n : ℕ) (x : Side) (ws : List ℕ) (steps : ℕ) (e p : EndState) → Both n x ws e p → (m : EndMachine) (q : List ℕ) → Begins e m q → IsSound m
-    → (t : EndState) (told told' : Option Told) (memory' : Option Memory) → Ran (entered e m q) t told told' (Some record { words = ws; steps = steps; due = [] }) memory'
-    → (m' : Memory) × (memory' ≡ Some m') × (m'.due ≡ []) × Goes n x q m'.words t p
-call_keeps n x ws steps e p b m q begins sound t told told' memory' ran =
+    → (t : EndState) (told told' : Option Told) (tale' : Tale) → Ran (entered e m q) t told told' (tells_memory record { words = ws; steps = steps; due = [] }) tale'
+    → (m' : Memory) × (tale'.memory ≡ Some m') × (m'.due ≡ []) × Goes n x q m'.words t p
+call_keeps n x ws steps e p b m q begins sound t told told' tale' ran =
     let r = ran.runs record { words = ws; steps = steps; due = [] } refl in
     let s : Stands n x q p (run (length ran.values) (pair (entered e m q) record { words = ws; steps = steps; due = [] })) =
     run_keeps n x q p (length ran.values) (pair (entered e m q) record { words = ws; steps = steps; due = [] }) (record { alone = refl; goes = call_began n x ws e p b m q begins sound }) in

@@ -5,7 +5,7 @@ use Rattle.ring_machine.specs.declared.machine.EndMachine.{EndMachine}
 use Rattle.ring_machine.specs.declared.state.EndState.{EndState}
 use Rattle.ring_machine.specs.declared.place.Op.{Op}
 use Rattle.ring_machine.specs.Steps.{fed, next_of}
-use Rattle.ring_core.specs.Told.{Memory, Pair, pair, step, step_by, run, written, answer_in, Ran}
+use Rattle.ring_core.specs.Told.{Memory, Pair, pair, step, step_by, run, written, answer_in, Ran, tells_memory}
 use Rattle.ring_machine.proofs.Tables.{fed_cells}
 use Rattle.ring_pair_laws.proofs.Sides.{fed_side}
 
@@ -38,7 +38,7 @@ module _ (n : ℕ) (x : Side) (K : EndMachine → List ℕ → Type 0)
   run_knows (suc k) y it = step_knows (run k y) (run_knows k y it)
 
   -- what it knows at the end of a call
-  pub call_knows : (b t : EndState) (memory memory' : Memory) → Ran b t None None (Some memory) (Some memory') → memory.due ≡ [] → b.machine.side ≡ x → b.machine.cells ≡ n → K b.machine memory.words → K t.machine memory'.words
+  pub call_knows : (b t : EndState) (memory memory' : Memory) → Ran b t None None (tells_memory memory) (tells_memory memory') → memory.due ≡ [] → b.machine.side ≡ x → b.machine.cells ≡ n → K b.machine memory.words → K t.machine memory'.words
   call_knows b t memory memory' ran alone side cells k =
       let r = ran.runs memory refl in
       let z : Knows (pair t r.0) = subst Knows r.2 (run_knows (length ran.values) (pair b memory) (record { alone = alone; side = side; cells = cells; knows = k })) in

@@ -10,7 +10,7 @@ use Rattle.ring_machine.specs.Endings.{LeavesBy}
 use Rattle.ring_core.specs.Seen.{Seen}
 use Rattle.ring_core.specs.Taking.{Takes}
 use Rattle.ring_core.specs.declared.told.Told.{Told}
-use Rattle.ring_core.specs.Told.{Held, Memory}
+use Rattle.ring_core.specs.Told.{Held, Tale}
 use Rattle.ring_pair_laws.specs.Pair.{TwoEnds, IsPair, SendKeeps, TakeKeeps, end_of, with_end, handed}
 use Rattle.ring_pair_laws.proofs.Pairing.{handed_state, handed_spare, lent_is}
 
@@ -33,7 +33,7 @@ module _ (s : TwoEnds) (x : Side) (old new : Seen Held) (is : old ≡ end_of (ha
         start = l.start (λ h. cc) ∙ ap (λ (e : EndState). e.machine.start) before;
       })
 
-  pub take_keeps : {told : Held → Option Told} {memory : Held → Option Memory} {same : Held → Held → Type 0} (refusal : Option TakeRefusal) → IsPair s → Takes Held told memory same old new refusal → TakeKeeps (end_of s x) (end_of (with_end (handed s x) x new) x)
+  pub take_keeps : {told : Held → Option Told} {tale : Held → Tale} {same : Held → Held → Type 0} (refusal : Option TakeRefusal) → IsPair s → Takes Held told tale same old new refusal → TakeKeeps (end_of s x) (end_of (with_end (handed s x) x new) x)
   take_keeps refusal ok t =
       let l = (t.idle (idle ok)).after in
       let spare = handed_spare s x in

@@ -22,7 +22,7 @@ use Rattle.page_kept.specs.declared.page_call.PageCall.TheVariants.{Off}
 use Rattle.page_kept.specs.Kept.{no_pages}
 use Rattle.ring_machine.specs.States.{IsPacket, IsAwake, MayLend, entered, afters, pages_after, sent_by, Begins, BeginsSend, BeginsTake, BeginsCommit, BeginsArm, BeginsPoll, BeginsMark, BeginsPeerMark}
 use Rattle.ring_machine.specs.Endings.{Leaves, send_answer, take_refusal}
-use Rattle.ring_core.specs.Told.{Memory, Held, Ran}
+use Rattle.ring_core.specs.Told.{Memory, Held, Ran, tells_memory}
 use Rattle.ring_core.specs.Seen.{Seen, Kept}
 use Rattle.ring_core.specs.Taking.{TakesIdle}
 use Rattle.ring_machine.specs.Endings.{refused}
@@ -117,8 +117,8 @@ call_on s x ok m q new begins ran stage =
     let seat : (end_of (handed s x) x).seat ≡ (end_of s s.at).seat = seat_at s s.at x in
     let own : (end_of (handed s x) x).seat.memory ≡ record { words = (memory_of s).words; steps = (memory_of s).steps; due = [] } =
     ap (λ (k : Held). k.memory) seat ∙ (λ i. record { words = (memory_of s).words; steps = (memory_of s).steps; due = ok.alone i }) in
-    let k = call_keeps (cells_of s) x (memory_of s).words (memory_of s).steps e (end_at (peer_of x) g h) b m q begins (begins_sound e m q b.fits.sound begins) new.state None None (Some new.seat.memory)
-    (subst (λ (y : Memory). Ran (entered e m q) new.state None None (Some y) (Some new.seat.memory)) own ran) in
+    let k = call_keeps (cells_of s) x (memory_of s).words (memory_of s).steps e (end_at (peer_of x) g h) b m q begins (begins_sound e m q b.fits.sound begins) new.state None None (tells_memory new.seat.memory)
+    (subst (λ (y : Memory). Ran (entered e m q) new.state None None (tells_memory y) (tells_memory new.seat.memory)) own ran) in
     let same : k.0 ≡ new.seat.memory = sym (some_is new.seat.memory k.0 k.1) in
     let goes : Goes (cells_of s) x q new.seat.memory.words new.state (end_at (peer_of x) g h) = subst (λ (y : Memory). Goes (cells_of s) x q y.words new.state (end_at (peer_of x) g h)) same k.3 in
     let alone : new.seat.memory.due ≡ [] = subst (λ (y : Memory). y.due ≡ []) same k.2 in
@@ -387,11 +387,11 @@ pub record TakeLeaves (s : TwoEnds) (x : Side) (new : Seen Held) (refusal : Opti
 
 -- a take of an end with the channel's memory
 pub take_on : (s : TwoEnds) (x : Side) (new : Seen Held) (refusal : Option TakeRefusal) → IsPair s → (old : Seen Held) → old ≡ end_of (handed s x) x → ((end_of s x).state.machine.asleep ≡ false) × ((end_of s x).state.machine.marked ≡ false)
-    → (old.state.machine.stage ≡ Idle → TakesIdle Held (λ _. None) (λ (k : Held). Some k.memory) old new refusal) → TakeLeaves s x new refusal
+    → (old.state.machine.stage ≡ Idle → TakesIdle Held (λ _. None) (λ (k : Held). tells_memory k.memory) old new refusal) → TakeLeaves s x new refusal
 take_on s x new refusal ok old is awake takes =
-    subst (λ (o : Seen Held). (o.state.machine.stage ≡ Idle → TakesIdle Held (λ _. None) (λ (k : Held). Some k.memory) o new refusal) → TakeLeaves s x new refusal) (sym is) on takes
+    subst (λ (o : Seen Held). (o.state.machine.stage ≡ Idle → TakesIdle Held (λ _. None) (λ (k : Held). tells_memory k.memory) o new refusal) → TakeLeaves s x new refusal) (sym is) on takes
   where
-    on : ((end_of (handed s x) x).state.machine.stage ≡ Idle → TakesIdle Held (λ _. None) (λ (k : Held). Some k.memory) (end_of (handed s x) x) new refusal) → TakeLeaves s x new refusal
+    on : ((end_of (handed s x) x).state.machine.stage ≡ Idle → TakesIdle Held (λ _. None) (λ (k : Held). tells_memory k.memory) (end_of (handed s x) x) new refusal) → TakeLeaves s x new refusal
     on takes_idle =
         let e : EndState = (end_of (handed s x) x).state in
         let same : (end_of s x).state ≡ e = sym (handed_state s x) in
@@ -404,7 +404,7 @@ take_on s x new refusal ok old is awake takes =
           meets = subst (λ (k : EndState × EndState). TakeMeets refusal k.0 new.state k.1) (λ j. (sym same j, sym (other_state s x) j)) (meets c (is_took new.state.machine.ended) refl f);
         }
       where
-        meets : (c : Called s x [] new) (b : Bool) → is_took new.state.machine.ended ≡ b → TakesIdle Held (λ _. None) (λ (k : Held). Some k.memory) (end_of (handed s x) x) new refusal
+        meets : (c : Called s x [] new) (b : Bool) → is_took new.state.machine.ended ≡ b → TakesIdle Held (λ _. None) (λ (k : Held). tells_memory k.memory) (end_of (handed s x) x) new refusal
             → TakeMeets refusal (end_of (handed s x) x).state new.state (end_at (peer_of x) s.guest.state s.host.state)
         meets c true i f = subst (λ (y : Option TakeRefusal). TakeMeets y (end_of (handed s x) x).state new.state (end_at (peer_of x) s.guest.state s.host.state)) (sym (f.answer ∙ ap (λ (y : Bool). cond y None (Some (take_refusal new.state.machine.ended new.state.machine))) i))
             (λ w got. take_gave (cells_of s) x _ [] (end_of (handed s x) x).state (end_at (peer_of x) s.guest.state s.host.state) new.state w c.goes got)

@@ -1,5 +1,5 @@
 -- What a call of an end says of itself over a memory that nobody else changes, and what it leaves of both ends of the channel.
-use Rattle.std.specs.Prelude.{◌≡◌, ℕ, ◌+◌, ◌≤◌, false, List, [], ◌∷◌, ◌++◌, length, Some, None, Result, IfOk, MatchResult}
+use Rattle.std.specs.Prelude.{◌≡◌, ℕ, ◌+◌, ◌≤◌, false, List, [], ◌∷◌, ◌++◌, length, None, Result, IfOk, MatchResult}
 use Rattle.io_edge.specs.declared.side.Side.{Side}
 use Rattle.ring_machine.specs.declared.last.Signalled.{Signalled}
 use Rattle.ring_machine.specs.declared.last.SendRefusal.{SendRefusal}
@@ -10,7 +10,7 @@ use Rattle.ring_machine.specs.Places.{peer_of}
 use Rattle.ring_machine.specs.Steps.{call_by, send_begun, commit_begun}
 use Rattle.ring_machine.specs.States.{IsPacket, sent_by}
 use Rattle.ring_machine.specs.Endings.{Leaves, LeavesBy, send_answer, commit_answer, refused}
-use Rattle.ring_core.specs.Told.{Held}
+use Rattle.ring_core.specs.Told.{Held, tells_memory}
 use Rattle.ring_core.specs.Seen.{Seen, Kept, SentRoom}
 use Rattle.ring_core.specs.Taking.{Takes}
 use Rattle.ring_pair_laws.specs.Pair.{TwoEnds, IsPair, MakesOwnSteps, Stays, SendKeeps, TakeKeeps, end_of, memory_of, cells_of}
@@ -38,7 +38,7 @@ pub record CommitSays (old new : Seen Held) (answer : Signalled) : Type 0 where
 
 -- what a take says, with the words that it lends
 pub record TakeSays (old new : Seen Held) (result : Result (List ℕ) TakeRefusal) : Type 0 where
-  pub takes : Takes Held (λ _. None) (λ (k : Held). Some k.memory) (λ _ _. Unit {0}) old new (refused result)
+  pub takes : Takes Held (λ _. None) (λ (k : Held). tells_memory k.memory) (λ _ _. Unit {0}) old new (refused result)
   pub lends : IfOk result (λ w. IsPacket w × (length w ≡ new.state.machine.len) × (new.state.got ≡ old.state.got ++ w ∷ []))
 
 -- the end of this side is awake, and said no mark

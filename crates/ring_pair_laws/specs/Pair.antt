@@ -1,17 +1,17 @@
 -- Both ends of a channel over one memory, which one of them has at each moment.
-use Rattle.std.specs.Prelude.{◌≡◌, ℕ, List, [], ◌≤◌, ◌+◌, false, Some, None}
+use Rattle.std.specs.Prelude.{◌≡◌, ℕ, List, [], ◌≤◌, ◌+◌, false, None}
 use Rattle.io_edge.specs.declared.side.Side.{Side}
 use Rattle.io_edge.specs.declared.side.Side.TheVariants.{Guest, Host}
 use Rattle.ring_machine.specs.declared.machine.EndMachine.{EndMachine}
 use Rattle.ring_machine.specs.Endings.{Leaves}
 use Rattle.ring_machine.specs.States.{Begins}
-use Rattle.ring_core.specs.Told.{Memory, Held, MakesSteps}
+use Rattle.ring_core.specs.Told.{Memory, Held, MakesSteps, tells_memory}
 use Rattle.ring_core.specs.Seen.{Seen}
 use Rattle.ring_pair_laws.specs.Ring.{AtRest}
 
 -- the call that this machine has begun, with this packet, made its steps on the end's own memory
 abbrev pub MakesOwnSteps : EndMachine → List ℕ → Seen Held → Seen Held → Type 0
-MakesOwnSteps begun packet old new = MakesSteps (λ (_ : Held). None) (λ (k : Held). Some k.memory) begun packet old new
+MakesOwnSteps begun packet old new = MakesSteps (λ (_ : Held). None) (λ (k : Held). tells_memory k.memory) begun packet old new
 
 -- what a contract sees of the two ends of a channel, each over a memory that nobody else changes, and the side whose end has the channel's memory. The
 -- other end has a spare one of the same size

@@ -2,7 +2,7 @@
 use Rattle.std.proofs.Common.{◌≡◌, ◌≢◌, ◌⊎◌, ℕ, ◌*◌, ◌≤◌, Bool, true, false, ◌||◌, not, cond, ltb, eqb, refl, sym, ap, ◌∙◌, subst, arith, inl, inr}
 use Rattle.std.proofs.lemmas.Bool.Decides.{nat_tests}
 use Rattle.ring_machine.specs.declared.machine.Stage.{Stage}
-use Rattle.ring_machine.specs.declared.machine.Stage.TheVariants.{Idle, Stopped, SendRead, SendCell, SendWrite, SendMask, SendLook, SendRaise, TakeWrite, TakeFirst, TakeCell, CommitRead, CommitFeature, CommitPending, CommitWrite, CommitRaise, ArmPending, ArmMask, ArmWrite, ArmRead, ArmMark, ArmUndoMask, ArmUndoPending, PollSignal, PollMask, PollPending, MarkStore, MarkRaise, PeerMark}
+use Rattle.ring_machine.specs.declared.machine.Stage.TheVariants.{Idle, Stopped, SendMask, SendLook, CommitFeature, CommitPending, CommitWrite, ArmWrite, ArmRead, ArmMark, ArmUndoMask, PollSignal, MarkRaise}
 use Rattle.ring_machine.specs.declared.machine.Ending.TheVariants.{NoSignal}
 use Rattle.ring_machine.specs.declared.machine.EndMachine.{EndMachine}
 use Rattle.ring_machine.specs.Places.{low, is_index, cell_of, free}
@@ -108,33 +108,11 @@ module _ (m k : EndMachine) (v sig : ℕ) (s : IsSound m) (p : AtPoint m) (t : I
   own_at : (st : Stage) → m.stage ≡ st → KnownBy st sig k v → Waking (signal_after st sig) (fed_at st m v) k
   own_at Idle e l = w
   own_at Stopped e l = w
-  own_at SendRead e l = closed SendRead e refl refl sig
-  own_at SendCell e l = closed SendCell e refl refl sig
-  own_at SendWrite e l = closed SendWrite e refl refl sig
-  own_at SendMask e l = closed SendMask e refl refl sig
-  own_at SendLook e l = closed SendLook e refl refl sig
-  own_at SendRaise e l = closed SendRaise e refl refl sig
-  own_at TakeWrite e l = closed TakeWrite e refl refl sig
-  own_at TakeFirst e l = closed TakeFirst e refl refl sig
-  own_at TakeCell e l = closed TakeCell e refl refl sig
-  own_at CommitRead e l = closed CommitRead e refl refl sig
-  own_at CommitFeature e l = closed CommitFeature e refl refl sig
-  own_at CommitPending e l = closed CommitPending e refl refl sig
-  own_at CommitWrite e l = closed CommitWrite e refl refl sig
-  own_at CommitRaise e l = closed CommitRaise e refl refl sig
-  own_at ArmPending e l = closed ArmPending e refl refl sig
-  own_at ArmMask e l = closed ArmMask e refl refl sig
-  own_at ArmUndoMask e l = closed ArmUndoMask e refl refl sig
-  own_at ArmUndoPending e l = closed ArmUndoPending e refl refl sig
-  own_at PollMask e l = closed PollMask e refl refl sig
-  own_at PollPending e l = closed PollPending e refl refl sig
-  own_at MarkStore e l = closed MarkStore e refl refl sig
-  own_at MarkRaise e l = closed MarkRaise e refl refl sig
-  own_at PeerMark e l = closed PeerMark e refl refl sig
   own_at ArmWrite e l = at_cond (λ (c : EndMachine). Waking sig c k) (eqb (low v) (8 * m.read)) _ _ (λ t0. at_cond (λ (c : EndMachine). Waking sig c k) (eqb m.want 0) _ _ (λ u. record { packets = λ h. inl (none_there l t0); room = λ h wants. absurd (wants (grind (arith, nat_tests))); mark = λ h. absurd (let up : m.asleep ≡ true = h in let down : m.asleep ≡ false = awake_at ArmWrite e refl in cc) }) (λ u. record { packets = λ h. inl (none_there l t0); room = λ h. absurd (let up : m.asleep ≡ true = h in let down : m.asleep ≡ false = awake_at ArmWrite e refl in cc); mark = λ h. absurd (let up : m.asleep ≡ true = h in let down : m.asleep ≡ false = awake_at ArmWrite e refl in cc) })) (λ t0. undone ArmWrite e refl _ refl refl)
   own_at ArmRead e l = at_cond (λ (c : EndMachine). Waking sig c k) (finds_room m v) _ _ (λ t0. undone ArmRead e refl _ refl refl) (λ t0. record { packets = λ h. packets_at ArmRead e refl; room = λ h wants. inl (no_room l t0); mark = λ h. absurd (let up : m.asleep ≡ true = h in let down : m.asleep ≡ false = awake_at ArmRead e refl in cc) })
   own_at ArmMark e l = at_cond (λ (c : EndMachine). Waking sig c k) (eqb v 0) _ _ (λ t0. record { packets = λ h. packets_at ArmMark e refl; room = λ h. room_at ArmMark e refl; mark = λ h. inl (is_down (k.marked || is_marking_at k.stage) (sym l ∙ grind (arith, nat_tests))) }) (λ t0. undone ArmMark e refl _ refl refl)
   own_at PollSignal e l = at_cond (λ (c : EndMachine). Waking 0 c k) (eqb v 0) _ _ (λ t0. slept (p.polls e) (sym l ∙ grind (arith, nat_tests))) (λ t0. shut_waking 0 _ k (record { stage = refl; awake = refl }))
+  own_at _ e l = closed _ e refl refl sig
 
   pub own_waking : KnownBy m.stage sig k v → Waking (signal_after m.stage sig) (fed m v) k
   own_waking l = own_at m.stage refl l

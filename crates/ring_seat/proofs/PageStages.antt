@@ -52,7 +52,6 @@ module _ (m : EndMachine) (v : ℕ) where
   comes SendWrite e = other SendWrite SendMask refl refl
   comes SendMask e = two SendMask (eqb (low v) 0) _ _ (other SendMask SendLook refl refl) (other SendMask Idle refl refl)
   comes SendLook e = two SendLook (eqb (low v) (8 * m.old)) _ _ (other SendLook SendRaise refl refl) (other SendLook Idle refl refl)
-  comes SendRaise e = other SendRaise Idle refl refl
   comes TakeWrite e = two TakeWrite (is_index m.cells v) _ _ (two TakeWrite (eqb (cell_of v) m.read) _ _ (takes TakeWrite Idle refl refl) (takes TakeWrite TakeFirst refl refl)) (takes TakeWrite Stopped refl refl)
   comes TakeFirst e = two TakeFirst (leb 2 (len8_of v) && ltb (len8_of v) (used m.cells m.read m.seen)) _ _ (two TakeFirst (leb 2 (offset8_of v) && leb (offset8_of v) (len8_of v)) _ _ (takes TakeFirst TakeCell refl refl) (takes TakeFirst Stopped refl refl)) (takes TakeFirst Stopped refl refl)
   comes TakeCell e = two TakeCell (ltb (m.done + 1) m.len) _ _ (takes TakeCell m.stage refl (ap is_unsent_at e)) (takes TakeCell Idle refl refl)
@@ -60,17 +59,14 @@ module _ (m : EndMachine) (v : ℕ) where
   comes CommitFeature e = two CommitFeature (eqb (low v % 2) 1) _ _ (other CommitFeature CommitPending refl refl) (other CommitFeature Idle refl refl)
   comes CommitPending e = two CommitPending (eqb (low v) 0) _ _ (other CommitPending Idle refl refl) (other CommitPending CommitWrite refl refl)
   comes CommitWrite e = two CommitWrite (makes_room m v) _ _ (other CommitWrite CommitRaise refl refl) (other CommitWrite Idle refl refl)
-  comes CommitRaise e = other CommitRaise Idle refl refl
   comes ArmPending e = other ArmPending ArmMask refl refl
   comes ArmMask e = other ArmMask ArmWrite refl refl
   comes ArmWrite e = two ArmWrite (eqb (low v) (8 * m.read)) _ _ (two ArmWrite (eqb m.want 0) _ _ (other ArmWrite ArmMark refl refl) (other ArmWrite ArmRead refl refl)) (other ArmWrite ArmUndoMask refl refl)
   comes ArmRead e = two ArmRead (finds_room m v) _ _ (other ArmRead ArmUndoMask refl refl) (other ArmRead ArmMark refl refl)
   comes ArmMark e = two ArmMark (eqb v 0) _ _ (other ArmMark Idle refl refl) (other ArmMark ArmUndoMask refl refl)
   comes ArmUndoMask e = two ArmUndoMask (eqb m.want 0) _ _ (other ArmUndoMask Idle refl refl) (other ArmUndoMask ArmUndoPending refl refl)
-  comes ArmUndoPending e = other ArmUndoPending Idle refl refl
   comes PollSignal e = two PollSignal (eqb v 0) _ _ (other PollSignal Idle refl refl) (other PollSignal PollMask refl refl)
   comes PollMask e = two PollMask (eqb m.want 0) _ _ (other PollMask Idle refl refl) (other PollMask PollPending refl refl)
-  comes PollPending e = other PollPending Idle refl refl
   comes MarkStore e = other MarkStore MarkRaise refl refl
-  comes MarkRaise e = other MarkRaise Idle refl refl
   comes PeerMark e = two PeerMark (eqb v 0) _ _ (other PeerMark Idle refl refl) (other PeerMark Idle refl refl)
+  comes _ e = other _ Idle refl refl

@@ -2,7 +2,7 @@
 use Rattle.std.proofs.Common.{◌≡◌, ◌≢◌, ◌⊎◌, ℕ, ◌*◌, ◌%◌, ◌<◌, ◌≤◌, Bool, true, false, ◌||◌, ◌&&◌, not, cond, eqb, refl, sym, ap, ◌∙◌, subst, arith, inl, inr}
 use Rattle.std.proofs.lemmas.Bool.Decides.{nat_tests}
 use Rattle.ring_machine.specs.declared.machine.Stage.{Stage}
-use Rattle.ring_machine.specs.declared.machine.Stage.TheVariants.{Idle, Stopped, SendRead, SendCell, SendWrite, SendMask, SendLook, SendRaise, TakeWrite, TakeFirst, TakeCell, CommitRead, CommitFeature, CommitPending, CommitWrite, CommitRaise, ArmPending, ArmMask, ArmWrite, ArmRead, ArmMark, ArmUndoMask, ArmUndoPending, PollSignal, PollMask, PollPending, MarkStore, MarkRaise, PeerMark}
+use Rattle.ring_machine.specs.declared.machine.Stage.TheVariants.{SendWrite, SendMask, SendLook, SendRaise, CommitRead, CommitFeature, CommitPending, CommitWrite, CommitRaise, ArmPending, ArmRead, ArmMark, MarkStore, MarkRaise}
 use Rattle.ring_machine.specs.declared.machine.EndMachine.{EndMachine}
 use Rattle.ring_machine.specs.Places.{low, is_index, free, raises_on_commit}
 use Rattle.ring_machine.specs.Steps.{IsSound, fed, fed_at, makes_room, sleeps_at, is_arming_at}
@@ -109,35 +109,13 @@ module _ (m k : EndMachine) (v own sig : ℕ) (s : IsSound m) (t : IsSound k) (q
   sent_now e (inr (inr c)) = not_sent SendWrite e refl c
 
   packets_by : (st : Stage) → m.stage ≡ st → KnownBy st own k v → Packets (raised_after st sig) (fed_at st m v)
-  packets_by Idle e l = packets_rest Idle e refl (λ h. cc)
-  packets_by Stopped e l = packets_rest Stopped e refl (λ h. cc)
-  packets_by SendRead e l = packets_rest SendRead e refl (λ h. cc)
-  packets_by SendCell e l = packets_rest SendCell e refl (λ h. cc)
   packets_by SendWrite e l = λ looked. sent_now e (w.packets looked)
   packets_by SendMask e l = at_cond (Packets sig) (eqb (low v) 0) _ _ (λ u looked. three (λ a. a) (λ (a : IsSendingFrom m k.read). record { past = refl; from = a.from }) (w.packets looked)) (λ u looked. absurd (let yes : eqb (low v) 0 ≡ true = mask_is l looked in cc))
   packets_by SendLook e l = at_cond (Packets sig) (eqb (low v) (8 * m.old)) _ _ (λ u looked. three (λ a. a) (λ (a : IsSendingFrom m k.read). record { past = refl; from = a.from }) (w.packets looked)) (λ u looked. three (λ a. a) (λ (a : IsSendingFrom m k.read). absurd (let yes : eqb (low v) (8 * m.old) ≡ true = look_is l looked a.from in cc)) (w.packets looked))
   packets_by SendRaise e l = λ looked. up
-  packets_by TakeWrite e l = packets_rest TakeWrite e refl (λ h. cc)
-  packets_by TakeFirst e l = packets_rest TakeFirst e refl (λ h. cc)
-  packets_by TakeCell e l = packets_rest TakeCell e refl (λ h. cc)
-  packets_by CommitRead e l = packets_rest CommitRead e refl (λ h. cc)
-  packets_by CommitFeature e l = packets_rest CommitFeature e refl (λ h. cc)
-  packets_by CommitPending e l = packets_rest CommitPending e refl (λ h. cc)
-  packets_by CommitWrite e l = packets_rest CommitWrite e refl (λ h. cc)
   packets_by CommitRaise e l = λ looked. up
-  packets_by ArmPending e l = packets_rest ArmPending e refl (λ h. cc)
-  packets_by ArmMask e l = packets_rest ArmMask e refl (λ h. cc)
-  packets_by ArmWrite e l = packets_rest ArmWrite e refl (λ h. cc)
-  packets_by ArmRead e l = packets_rest ArmRead e refl (λ h. cc)
-  packets_by ArmMark e l = packets_rest ArmMark e refl (λ h. cc)
-  packets_by ArmUndoMask e l = packets_rest ArmUndoMask e refl (λ h. cc)
-  packets_by ArmUndoPending e l = packets_rest ArmUndoPending e refl (λ h. cc)
-  packets_by PollSignal e l = packets_rest PollSignal e refl (λ h. cc)
-  packets_by PollMask e l = packets_rest PollMask e refl (λ h. cc)
-  packets_by PollPending e l = packets_rest PollPending e refl (λ h. cc)
-  packets_by MarkStore e l = packets_rest MarkStore e refl (λ h. cc)
   packets_by MarkRaise e l = λ looked. up
-  packets_by PeerMark e l = packets_rest PeerMark e refl (λ h. cc)
+  packets_by _ e l = packets_rest _ e refl (λ h. cc)
 
   -- A commit that is quiet at its load of write: there is no more room than is wanted
   no_more : v ≡ 8 * k.write → m.start ≡ m.read → 8 * free k.cells m.old k.write ≤ k.want → m.value ≡ k.want → makes_room m v ≡ false → 8 * free k.cells m.start k.write ≤ k.want
@@ -175,66 +153,21 @@ module _ (m k : EndMachine) (v own sig : ℕ) (s : IsSound m) (t : IsSound k) (q
   quiet_room f (inr (inr c)) = inl (f c)
 
   room_by : (st : Stage) → m.stage ≡ st → KnownBy st own k v → Room (raised_after st sig) (fed_at st m v)
-  room_by Idle e l = room_rest Idle e refl (λ h. cc)
-  room_by Stopped e l = room_rest Stopped e refl (λ h. cc)
-  room_by SendRead e l = room_rest SendRead e refl (λ h. cc)
-  room_by SendCell e l = room_rest SendCell e refl (λ h. cc)
-  room_by SendWrite e l = room_rest SendWrite e refl (λ h. cc)
-  room_by SendMask e l = room_rest SendMask e refl (λ h. cc)
-  room_by SendLook e l = room_rest SendLook e refl (λ h. cc)
   room_by SendRaise e l = λ looked wants. up
-  room_by TakeWrite e l = room_rest TakeWrite e refl (λ h. cc)
-  room_by TakeFirst e l = room_rest TakeFirst e refl (λ h. cc)
-  room_by TakeCell e l = room_rest TakeCell e refl (λ h. cc)
   room_by CommitRead e l = λ looked wants. gives e (w.room looked wants)
   room_by CommitFeature e l = at_cond (Room sig) (eqb (low v % 2) 1) _ _ (λ u looked wants. three (λ a. a) (λ (a : IsGivingBack m k.cells k.write k.want). record { past = refl; room = a.room; loaded = λ h. absurd (cc) }) (w.room looked wants)) (λ u. absurd (let yes : eqb (low v % 2) 1 ≡ true = ap (λ (c : ℕ). eqb (low c % 2) 1) l in cc))
   room_by CommitPending e l = at_cond (Room sig) (eqb (low v) 0) _ _ (λ u looked wants. absurd (wants (let none : low v ≡ 0 = grind (arith, nat_tests) in sym (wanted looked l) ∙ none))) (λ u looked wants. three (λ a. a) (λ (a : IsGivingBack m k.cells k.write k.want). record { past = refl; room = a.room; loaded = λ h. wanted looked l }) (w.room looked wants))
   room_by CommitWrite e l = at_cond (Room sig) (makes_room m v) _ _ (λ u looked wants. three (λ a. a) (λ (a : IsGivingBack m k.cells k.write k.want). record { past = refl; room = a.room; loaded = λ h. weighed e a }) (w.room looked wants)) (λ u looked wants. quiet_room (λ (a : IsGivingBack m k.cells k.write k.want). no_more l (given (ap is_given_at e)) a.room (weighed e a) u) (w.room looked wants))
   room_by CommitRaise e l = λ looked wants. up
-  room_by ArmPending e l = room_rest ArmPending e refl (λ h. cc)
-  room_by ArmMask e l = room_rest ArmMask e refl (λ h. cc)
-  room_by ArmWrite e l = room_rest ArmWrite e refl (λ h. cc)
-  room_by ArmRead e l = room_rest ArmRead e refl (λ h. cc)
-  room_by ArmMark e l = room_rest ArmMark e refl (λ h. cc)
-  room_by ArmUndoMask e l = room_rest ArmUndoMask e refl (λ h. cc)
-  room_by ArmUndoPending e l = room_rest ArmUndoPending e refl (λ h. cc)
-  room_by PollSignal e l = room_rest PollSignal e refl (λ h. cc)
-  room_by PollMask e l = room_rest PollMask e refl (λ h. cc)
-  room_by PollPending e l = room_rest PollPending e refl (λ h. cc)
-  room_by MarkStore e l = room_rest MarkStore e refl (λ h. cc)
   room_by MarkRaise e l = λ looked wants. up
-  room_by PeerMark e l = room_rest PeerMark e refl (λ h. cc)
+  room_by _ e l = room_rest _ e refl (λ h. cc)
 
   mark_by : (st : Stage) → m.stage ≡ st → Mark (raised_after st sig) (fed_at st m v)
-  mark_by Idle e = mark_rest Idle e (λ h. cc) (λ h. cc)
-  mark_by Stopped e = mark_rest Stopped e (λ h. cc) (λ h. cc)
-  mark_by SendRead e = mark_rest SendRead e (λ h. cc) (λ h. cc)
-  mark_by SendCell e = mark_rest SendCell e (λ h. cc) (λ h. cc)
-  mark_by SendWrite e = mark_rest SendWrite e (λ h. cc) (λ h. cc)
-  mark_by SendMask e = mark_rest SendMask e (λ h. cc) (λ h. cc)
-  mark_by SendLook e = mark_rest SendLook e (λ h. cc) (λ h. cc)
   mark_by SendRaise e = λ asleep. up
-  mark_by TakeWrite e = mark_rest TakeWrite e (λ h. cc) (λ h. cc)
-  mark_by TakeFirst e = mark_rest TakeFirst e (λ h. cc) (λ h. cc)
-  mark_by TakeCell e = mark_rest TakeCell e (λ h. cc) (λ h. cc)
-  mark_by CommitRead e = mark_rest CommitRead e (λ h. cc) (λ h. cc)
-  mark_by CommitFeature e = mark_rest CommitFeature e (λ h. cc) (λ h. cc)
-  mark_by CommitPending e = mark_rest CommitPending e (λ h. cc) (λ h. cc)
-  mark_by CommitWrite e = mark_rest CommitWrite e (λ h. cc) (λ h. cc)
   mark_by CommitRaise e = λ asleep. up
-  mark_by ArmPending e = mark_rest ArmPending e (λ h. cc) (λ h. cc)
-  mark_by ArmMask e = mark_rest ArmMask e (λ h. cc) (λ h. cc)
-  mark_by ArmWrite e = mark_rest ArmWrite e (λ h. cc) (λ h. cc)
-  mark_by ArmRead e = mark_rest ArmRead e (λ h. cc) (λ h. cc)
-  mark_by ArmMark e = mark_rest ArmMark e (λ h. cc) (λ h. cc)
-  mark_by ArmUndoMask e = mark_rest ArmUndoMask e (λ h. cc) (λ h. cc)
-  mark_by ArmUndoPending e = mark_rest ArmUndoPending e (λ h. cc) (λ h. cc)
-  mark_by PollSignal e = mark_rest PollSignal e (λ h. cc) (λ h. cc)
-  mark_by PollMask e = mark_rest PollMask e (λ h. cc) (λ h. cc)
-  mark_by PollPending e = mark_rest PollPending e (λ h. cc) (λ h. cc)
   mark_by MarkStore e = λ asleep. inr (inr refl)
   mark_by MarkRaise e = λ asleep. up
-  mark_by PeerMark e = mark_rest PeerMark e (λ h. cc) (λ h. cc)
+  mark_by _ e = mark_rest _ e (λ h. cc) (λ h. cc)
 
   pub peers_waking : KnownBy m.stage own k v → Waking (raised_after m.stage sig) k (fed m v)
   peers_waking l = record { packets = packets_by m.stage refl l; room = room_by m.stage refl l; mark = mark_by m.stage refl }

@@ -3,7 +3,7 @@ use Rattle.std.proofs.Common.{◌≡◌, ◌≢◌, ℕ, ◌+◌, ◌*◌, ◌%�
 use Rattle.std.proofs.lemmas.Bool.Decides.{nat_tests}
 use Rattle.io_edge.specs.declared.side.Side.{Side}
 use Rattle.ring_machine.specs.declared.machine.Stage.{Stage}
-use Rattle.ring_machine.specs.declared.machine.Stage.TheVariants.{Idle, Stopped, SendRead, SendCell, SendWrite, SendMask, SendLook, SendRaise, TakeWrite, TakeFirst, TakeCell, CommitRead, CommitFeature, CommitPending, CommitWrite, CommitRaise, ArmPending, ArmMask, ArmWrite, ArmRead, ArmMark, ArmUndoMask, ArmUndoPending, PollSignal, PollMask, PollPending, MarkStore, MarkRaise, PeerMark}
+use Rattle.ring_machine.specs.declared.machine.Stage.TheVariants.{Idle, Stopped, SendRead, SendCell, SendMask, SendLook, TakeWrite, TakeFirst, TakeCell, CommitFeature, CommitPending, CommitWrite, ArmPending, ArmMask, ArmWrite, ArmRead, ArmMark, ArmUndoMask, ArmUndoPending, PollSignal, PollMask, PollPending, PeerMark}
 use Rattle.ring_machine.specs.declared.machine.EndMachine.{EndMachine}
 use Rattle.ring_machine.specs.declared.state.EndState.{EndState}
 use Rattle.ring_machine.specs.Places.{low, is_index, cell_of, used, free, len8_of, offset8_of}
@@ -103,20 +103,14 @@ module _ (m : EndMachine) (v : ℕ) (s : IsSound m) (p : AtPoint m) where
   fed_at_point Stopped e = rest Stopped e refl m (ap is_plain_at e) refl refl refl
   fed_at_point SendRead e = at_cond AtPoint (is_index m.cells v) _ _ (λ t. at_cond AtPoint (leb (free m.cells (cell_of v) m.write) (m.len + 1)) _ _ (λ u. rest SendRead e refl _ refl refl refl refl) (λ u. rest SendRead e refl _ refl refl refl refl)) (λ t. rest SendRead e refl _ refl refl refl refl)
   fed_at_point SendCell e = at_cond AtPoint (ltb m.done m.len) _ _ (λ t. rest SendCell e refl _ (ap is_plain_at e) refl refl refl) (λ t. rest SendCell e refl _ refl refl refl refl)
-  fed_at_point SendWrite e = rest SendWrite e refl _ refl refl refl refl
   fed_at_point SendMask e = at_cond AtPoint (eqb (low v) 0) _ _ (λ t. rest SendMask e refl _ refl refl refl refl) (λ t. rest SendMask e refl _ refl refl refl refl)
   fed_at_point SendLook e = at_cond AtPoint (eqb (low v) (8 * m.old)) _ _ (λ t. rest SendLook e refl _ refl refl refl refl) (λ t. rest SendLook e refl _ refl refl refl refl)
-  fed_at_point SendRaise e = rest SendRaise e refl _ refl refl refl refl
   fed_at_point TakeWrite e = at_cond AtPoint (is_index m.cells v) _ _ (λ t. at_cond AtPoint (eqb (cell_of v) m.read) _ _ (λ u. rest TakeWrite e refl _ refl refl refl refl) (λ u. rest TakeWrite e refl _ refl refl refl refl)) (λ t. rest TakeWrite e refl _ refl refl refl refl)
   fed_at_point TakeFirst e = at_cond AtPoint (leb 2 (len8_of v) && ltb (len8_of v) (used m.cells m.read m.seen)) _ _ (λ t. at_cond AtPoint (leb 2 (offset8_of v) && leb (offset8_of v) (len8_of v)) _ _ (λ u. rest TakeFirst e refl _ refl refl refl refl) (λ u. rest TakeFirst e refl _ refl refl refl refl)) (λ t. rest TakeFirst e refl _ refl refl refl refl)
   fed_at_point TakeCell e = at_cond AtPoint (ltb (m.done + 1) m.len) _ _ (λ t. rest TakeCell e refl _ (ap is_plain_at e) refl refl refl) (λ t. rest TakeCell e refl _ refl refl refl refl)
-  fed_at_point CommitRead e = rest CommitRead e refl _ refl refl refl refl
   fed_at_point CommitFeature e = at_cond AtPoint (eqb (low v % 2) 1) _ _ (λ t. rest CommitFeature e refl _ refl refl refl refl) (λ t. rest CommitFeature e refl _ refl refl refl refl)
   fed_at_point CommitPending e = at_cond AtPoint (eqb (low v) 0) _ _ (λ t. rest CommitPending e refl _ refl refl refl refl) (λ t. rest CommitPending e refl _ refl refl refl refl)
   fed_at_point CommitWrite e = at_cond AtPoint (makes_room m v) _ _ (λ t. rest CommitWrite e refl _ refl refl refl refl) (λ t. rest CommitWrite e refl _ refl refl refl refl)
-  fed_at_point CommitRaise e = rest CommitRaise e refl _ refl refl refl refl
-  fed_at_point MarkStore e = rest MarkStore e refl _ refl refl refl refl
-  fed_at_point MarkRaise e = rest MarkRaise e refl _ refl refl refl refl
   fed_at_point PeerMark e = at_cond AtPoint (eqb v 0) _ _ (λ t. rest PeerMark e refl _ refl refl refl refl) (λ t. rest PeerMark e refl _ refl refl refl refl)
   fed_at_point ArmPending e = record { masked = masked_at m p ArmPending e; want = λ h. absurd (cc); polls = λ h. absurd (cc) }
   fed_at_point ArmMask e = record { masked = refl; want = λ h. absurd (cc); polls = λ h. absurd (cc) }
@@ -128,6 +122,7 @@ module _ (m : EndMachine) (v : ℕ) (s : IsSound m) (p : AtPoint m) where
   fed_at_point ArmUndoPending e = record { masked = masked_at m p ArmUndoPending e; want = λ h. refl; polls = λ h. absurd (cc) }
   fed_at_point PollPending e = record { masked = masked_at m p PollPending e; want = λ h. refl; polls = λ h. absurd (cc) }
   fed_at_point PollSignal e = at_cond AtPoint (eqb v 0) _ _ (λ t. record { masked = masked_at m p PollSignal e; want = λ h. let is : m.asleep ≡ true = p.polls e in absurd (cc); polls = λ h. absurd (cc) }) (λ t. record { masked = masked_at m p PollSignal e ∙ ap not (p.polls e); want = λ h. absurd (cc); polls = λ h. absurd (cc) })
+  fed_at_point _ e = rest _ e refl _ refl refl refl refl
 
   pub fed_point : AtPoint (fed m v)
   fed_point = fed_at_point m.stage refl

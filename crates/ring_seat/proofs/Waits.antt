@@ -4,7 +4,7 @@ use Rattle.std.proofs.lemmas.List.{get_or-set_same, get_or-set_other}
 use Rattle.io_edge.specs.declared.side.Side.{Side}
 use Rattle.io_edge.specs.declared.side.Side.TheVariants.{Guest, Host}
 use Rattle.ring_machine.specs.declared.machine.Stage.{Stage}
-use Rattle.ring_machine.specs.declared.machine.Stage.TheVariants.{Idle, Stopped, SendRead, SendCell, SendWrite, SendMask, SendLook, SendRaise, TakeWrite, TakeFirst, TakeCell, CommitRead, CommitFeature, CommitPending, CommitWrite, CommitRaise, ArmPending, ArmMask, ArmWrite, ArmRead, ArmMark, ArmUndoMask, ArmUndoPending, PollSignal, PollMask, PollPending, MarkStore, MarkRaise, PeerMark}
+use Rattle.ring_machine.specs.declared.machine.Stage.TheVariants.{Idle, Stopped, SendCell, SendWrite, SendRaise, CommitRead, CommitRaise, ArmPending, ArmMask, ArmUndoMask, ArmUndoPending, PollSignal, PollMask, PollPending, MarkStore, MarkRaise}
 use Rattle.ring_machine.specs.declared.machine.EndMachine.{EndMachine}
 use Rattle.ring_machine.specs.declared.place.Ring.{Ring}
 use Rattle.ring_machine.specs.declared.place.Ring.TheVariants.{ToHost, ToGuest}
@@ -123,25 +123,13 @@ module _ (m : EndMachine) (p ws : List ℕ) (s : IsSound m) (long : length ws �
   waits_at : (st : Stage) (op : Op) → next_at st m p ≡ Some op → After st op
   waits_at Idle op h = absurd (cc)
   waits_at Stopped op h = absurd (cc)
-  waits_at SendRead op h = given SendRead _ op h (same m.cells ws m.side)
   waits_at SendCell op h = given SendCell _ op h (elsewhere m.cells ws m.side _ _ (apart_cell m.cells ws (out_of m.side) (ahead m.cells m.write m.done) (ahead_below m.cells m.write m.done s.write (omega (arith, s.done, s.len)))))
   waits_at SendWrite op h = given SendWrite _ op h (elsewhere m.cells ws m.side _ _ (apart_write m.cells ws (out_of m.side)))
-  waits_at SendMask op h = given SendMask _ op h (same m.cells ws m.side)
-  waits_at SendLook op h = given SendLook _ op h (same m.cells ws m.side)
   waits_at SendRaise op h = given SendRaise _ op h (put_raised m.cells ws long m.side 1)
-  waits_at TakeWrite op h = given TakeWrite _ op h (same m.cells ws m.side)
-  waits_at TakeFirst op h = given TakeFirst _ op h (same m.cells ws m.side)
-  waits_at TakeCell op h = given TakeCell _ op h (same m.cells ws m.side)
   waits_at CommitRead op h = given CommitRead _ op h (elsewhere m.cells ws m.side _ _ (apart_read m.cells ws (in_of m.side)))
-  waits_at CommitFeature op h = given CommitFeature _ op h (same m.cells ws m.side)
-  waits_at CommitPending op h = given CommitPending _ op h (same m.cells ws m.side)
-  waits_at CommitWrite op h = given CommitWrite _ op h (same m.cells ws m.side)
   waits_at CommitRaise op h = given CommitRaise _ op h (put_raised m.cells ws long m.side 1)
   waits_at ArmPending op h = given ArmPending _ op h (put_pending m.cells ws long m.side m.want)
   waits_at ArmMask op h = given ArmMask _ op h (put_mask m.cells ws long m.side 0)
-  waits_at ArmWrite op h = given ArmWrite _ op h (same m.cells ws m.side)
-  waits_at ArmRead op h = given ArmRead _ op h (same m.cells ws m.side)
-  waits_at ArmMark op h = given ArmMark _ op h (same m.cells ws m.side)
   waits_at ArmUndoMask op h = given ArmUndoMask _ op h (put_mask m.cells ws long m.side 1)
   waits_at ArmUndoPending op h = given ArmUndoPending _ op h (put_pending m.cells ws long m.side 0)
   waits_at PollSignal op h = given PollSignal _ op h (put_signal m.cells ws long m.side 0)
@@ -149,7 +137,7 @@ module _ (m : EndMachine) (p ws : List ℕ) (s : IsSound m) (long : length ws �
   waits_at PollPending op h = given PollPending _ op h (put_pending m.cells ws long m.side 0)
   waits_at MarkStore op h = given MarkStore _ op h (elsewhere m.cells ws m.side _ _ (apart_mark m.cells ws m.side))
   waits_at MarkRaise op h = given MarkRaise _ op h (put_raised m.cells ws long m.side 1)
-  waits_at PeerMark op h = given PeerMark _ op h (same m.cells ws m.side)
+  waits_at st op h = given st _ op h (same m.cells ws m.side)
 
   -- what the next step makes of the waiting words
   pub step_waits : (op : Op) → next_of m p ≡ Some op → WaitsBy m.stage m.cells m.side m.want ws (written m.cells op ws)

@@ -1,7 +1,7 @@
 -- What each step leaves of an end's indices, its mark and its looks.
 use Rattle.std.proofs.Common.{◌≡◌, ◌≢◌, ℕ, ◌+◌, ◌*◌, ◌%◌, Bool, true, false, ◌||◌, ◌&&◌, leb, ltb, eqb, refl, sym, ap, ◌∙◌}
 use Rattle.ring_machine.specs.declared.machine.Stage.{Stage}
-use Rattle.ring_machine.specs.declared.machine.Stage.TheVariants.{Idle, Stopped, SendRead, SendCell, SendWrite, SendMask, SendLook, SendRaise, TakeWrite, TakeFirst, TakeCell, CommitRead, CommitFeature, CommitPending, CommitWrite, CommitRaise, ArmPending, ArmMask, ArmWrite, ArmRead, ArmMark, ArmUndoMask, ArmUndoPending, PollSignal, PollMask, PollPending, MarkStore, MarkRaise, PeerMark}
+use Rattle.ring_machine.specs.declared.machine.Stage.TheVariants.{Idle, Stopped, SendRead, SendCell, SendWrite, SendMask, SendLook, TakeWrite, TakeFirst, TakeCell, CommitRead, CommitFeature, CommitPending, CommitWrite, ArmWrite, ArmRead, ArmMark, ArmUndoMask, PollSignal, PollMask, MarkStore, MarkRaise, PeerMark}
 use Rattle.ring_machine.specs.declared.machine.EndMachine.{EndMachine}
 use Rattle.ring_machine.specs.Places.{low, is_index, cell_of, used, free, len8_of, offset8_of}
 use Rattle.ring_machine.specs.Steps.{fed, fed_at, makes_room, finds_room}
@@ -31,75 +31,52 @@ module _ (m : EndMachine) (v : ℕ) (awake : m.asleep ≡ false) where
   shut_by Stopped e h = absurd (cc)
   shut_by SendRead e h = at_cond Shut (is_index m.cells v) _ _ (λ t. at_cond Shut (leb (free m.cells (cell_of v) m.write) (m.len + 1)) _ _ (λ u. record { stage = refl; awake = awake }) (λ u. record { stage = refl; awake = awake })) (λ t. record { stage = refl; awake = awake })
   shut_by SendCell e h = at_cond Shut (ltb m.done m.len) _ _ (λ t. record { stage = ap packets_looked_at e; awake = awake }) (λ t. record { stage = refl; awake = awake })
-  shut_by SendWrite e h = record { stage = refl; awake = awake }
   shut_by SendMask e h = at_cond Shut (eqb (low v) 0) _ _ (λ t. record { stage = refl; awake = awake }) (λ t. record { stage = refl; awake = awake })
   shut_by SendLook e h = at_cond Shut (eqb (low v) (8 * m.old)) _ _ (λ t. record { stage = refl; awake = awake }) (λ t. record { stage = refl; awake = awake })
-  shut_by SendRaise e h = record { stage = refl; awake = awake }
   shut_by TakeWrite e h = at_cond Shut (is_index m.cells v) _ _ (λ t. at_cond Shut (eqb (cell_of v) m.read) _ _ (λ u. record { stage = refl; awake = awake }) (λ u. record { stage = refl; awake = awake })) (λ t. record { stage = refl; awake = awake })
   shut_by TakeFirst e h = at_cond Shut (leb 2 (len8_of v) && ltb (len8_of v) (used m.cells m.read m.seen)) _ _ (λ t. at_cond Shut (leb 2 (offset8_of v) && leb (offset8_of v) (len8_of v)) _ _ (λ u. record { stage = refl; awake = awake }) (λ u. record { stage = refl; awake = awake })) (λ t. record { stage = refl; awake = awake })
   shut_by TakeCell e h = at_cond Shut (ltb (m.done + 1) m.len) _ _ (λ t. record { stage = ap packets_looked_at e; awake = awake }) (λ t. record { stage = refl; awake = awake })
-  shut_by CommitRead e h = record { stage = refl; awake = awake }
   shut_by CommitFeature e h = at_cond Shut (eqb (low v % 2) 1) _ _ (λ t. record { stage = refl; awake = awake }) (λ t. record { stage = refl; awake = awake })
   shut_by CommitPending e h = at_cond Shut (eqb (low v) 0) _ _ (λ t. record { stage = refl; awake = awake }) (λ t. record { stage = refl; awake = awake })
   shut_by CommitWrite e h = at_cond Shut (makes_room m v) _ _ (λ t. record { stage = refl; awake = awake }) (λ t. record { stage = refl; awake = awake })
-  shut_by CommitRaise e h = record { stage = refl; awake = awake }
-  shut_by ArmPending e h = record { stage = refl; awake = awake }
-  shut_by ArmMask e h = record { stage = refl; awake = awake }
   shut_by ArmWrite e h = absurd (cc)
   shut_by ArmRead e h = absurd (cc)
   shut_by ArmMark e h = absurd (cc)
   shut_by ArmUndoMask e h = at_cond Shut (eqb m.want 0) _ _ (λ t. record { stage = refl; awake = awake }) (λ t. record { stage = refl; awake = awake })
-  shut_by ArmUndoPending e h = record { stage = refl; awake = awake }
   shut_by PollSignal e h = absurd (cc)
   shut_by PollMask e h = at_cond Shut (eqb m.want 0) _ _ (λ t. record { stage = refl; awake = awake }) (λ t. record { stage = refl; awake = awake })
-  shut_by PollPending e h = record { stage = refl; awake = awake }
-  shut_by MarkStore e h = record { stage = refl; awake = awake }
-  shut_by MarkRaise e h = record { stage = refl; awake = awake }
   shut_by PeerMark e h = at_cond Shut (eqb v 0) _ _ (λ t. record { stage = refl; awake = awake }) (λ t. record { stage = refl; awake = awake })
+  shut_by _ e h = record { stage = refl; awake = awake }
 
 module _ (m : EndMachine) (v : ℕ) where
   -- the write index moves at its store alone
   pub write_kept : (st : Stage) → st ≢ SendWrite → (fed_at st m v).write ≡ m.write
-  write_kept Idle h = refl
-  write_kept Stopped h = refl
   write_kept SendRead h = at_cond (λ (k : EndMachine). k.write ≡ m.write) (is_index m.cells v) _ _ (λ t. at_cond (λ (k : EndMachine). k.write ≡ m.write) (leb (free m.cells (cell_of v) m.write) (m.len + 1)) _ _ (λ u. refl) (λ u. refl)) (λ t. refl)
   write_kept SendCell h = at_cond (λ (k : EndMachine). k.write ≡ m.write) (ltb m.done m.len) _ _ (λ t. refl) (λ t. refl)
   write_kept SendWrite h = absurd (h refl)
   write_kept SendMask h = at_cond (λ (k : EndMachine). k.write ≡ m.write) (eqb (low v) 0) _ _ (λ t. refl) (λ t. refl)
   write_kept SendLook h = at_cond (λ (k : EndMachine). k.write ≡ m.write) (eqb (low v) (8 * m.old)) _ _ (λ t. refl) (λ t. refl)
-  write_kept SendRaise h = refl
   write_kept TakeWrite h = at_cond (λ (k : EndMachine). k.write ≡ m.write) (is_index m.cells v) _ _ (λ t. at_cond (λ (k : EndMachine). k.write ≡ m.write) (eqb (cell_of v) m.read) _ _ (λ u. refl) (λ u. refl)) (λ t. refl)
   write_kept TakeFirst h = at_cond (λ (k : EndMachine). k.write ≡ m.write) (leb 2 (len8_of v) && ltb (len8_of v) (used m.cells m.read m.seen)) _ _ (λ t. at_cond (λ (k : EndMachine). k.write ≡ m.write) (leb 2 (offset8_of v) && leb (offset8_of v) (len8_of v)) _ _ (λ u. refl) (λ u. refl)) (λ t. refl)
   write_kept TakeCell h = at_cond (λ (k : EndMachine). k.write ≡ m.write) (ltb (m.done + 1) m.len) _ _ (λ t. refl) (λ t. refl)
-  write_kept CommitRead h = refl
   write_kept CommitFeature h = at_cond (λ (k : EndMachine). k.write ≡ m.write) (eqb (low v % 2) 1) _ _ (λ t. refl) (λ t. refl)
   write_kept CommitPending h = at_cond (λ (k : EndMachine). k.write ≡ m.write) (eqb (low v) 0) _ _ (λ t. refl) (λ t. refl)
   write_kept CommitWrite h = at_cond (λ (k : EndMachine). k.write ≡ m.write) (makes_room m v) _ _ (λ t. refl) (λ t. refl)
-  write_kept CommitRaise h = refl
-  write_kept ArmPending h = refl
-  write_kept ArmMask h = refl
   write_kept ArmWrite h = at_cond (λ (k : EndMachine). k.write ≡ m.write) (eqb (low v) (8 * m.read)) _ _ (λ t. at_cond (λ (k : EndMachine). k.write ≡ m.write) (eqb m.want 0) _ _ (λ u. refl) (λ u. refl)) (λ t. refl)
   write_kept ArmRead h = at_cond (λ (k : EndMachine). k.write ≡ m.write) (finds_room m v) _ _ (λ t. refl) (λ t. refl)
   write_kept ArmMark h = at_cond (λ (k : EndMachine). k.write ≡ m.write) (eqb v 0) _ _ (λ t. refl) (λ t. refl)
   write_kept ArmUndoMask h = at_cond (λ (k : EndMachine). k.write ≡ m.write) (eqb m.want 0) _ _ (λ t. refl) (λ t. refl)
-  write_kept ArmUndoPending h = refl
   write_kept PollSignal h = at_cond (λ (k : EndMachine). k.write ≡ m.write) (eqb v 0) _ _ (λ t. refl) (λ t. refl)
   write_kept PollMask h = at_cond (λ (k : EndMachine). k.write ≡ m.write) (eqb m.want 0) _ _ (λ t. refl) (λ t. refl)
-  write_kept PollPending h = refl
-  write_kept MarkStore h = refl
-  write_kept MarkRaise h = refl
   write_kept PeerMark h = at_cond (λ (k : EndMachine). k.write ≡ m.write) (eqb v 0) _ _ (λ t. refl) (λ t. refl)
+  write_kept _ h = refl
 
   -- the committed index moves at its store alone
   pub start_kept : (st : Stage) → st ≢ CommitRead → (fed_at st m v).start ≡ m.start
-  start_kept Idle h = refl
-  start_kept Stopped h = refl
   start_kept SendRead h = at_cond (λ (k : EndMachine). k.start ≡ m.start) (is_index m.cells v) _ _ (λ t. at_cond (λ (k : EndMachine). k.start ≡ m.start) (leb (free m.cells (cell_of v) m.write) (m.len + 1)) _ _ (λ u. refl) (λ u. refl)) (λ t. refl)
   start_kept SendCell h = at_cond (λ (k : EndMachine). k.start ≡ m.start) (ltb m.done m.len) _ _ (λ t. refl) (λ t. refl)
-  start_kept SendWrite h = refl
   start_kept SendMask h = at_cond (λ (k : EndMachine). k.start ≡ m.start) (eqb (low v) 0) _ _ (λ t. refl) (λ t. refl)
   start_kept SendLook h = at_cond (λ (k : EndMachine). k.start ≡ m.start) (eqb (low v) (8 * m.old)) _ _ (λ t. refl) (λ t. refl)
-  start_kept SendRaise h = refl
   start_kept TakeWrite h = at_cond (λ (k : EndMachine). k.start ≡ m.start) (is_index m.cells v) _ _ (λ t. at_cond (λ (k : EndMachine). k.start ≡ m.start) (eqb (cell_of v) m.read) _ _ (λ u. refl) (λ u. refl)) (λ t. refl)
   start_kept TakeFirst h = at_cond (λ (k : EndMachine). k.start ≡ m.start) (leb 2 (len8_of v) && ltb (len8_of v) (used m.cells m.read m.seen)) _ _ (λ t. at_cond (λ (k : EndMachine). k.start ≡ m.start) (leb 2 (offset8_of v) && leb (offset8_of v) (len8_of v)) _ _ (λ u. refl) (λ u. refl)) (λ t. refl)
   start_kept TakeCell h = at_cond (λ (k : EndMachine). k.start ≡ m.start) (ltb (m.done + 1) m.len) _ _ (λ t. refl) (λ t. refl)
@@ -107,20 +84,14 @@ module _ (m : EndMachine) (v : ℕ) where
   start_kept CommitFeature h = at_cond (λ (k : EndMachine). k.start ≡ m.start) (eqb (low v % 2) 1) _ _ (λ t. refl) (λ t. refl)
   start_kept CommitPending h = at_cond (λ (k : EndMachine). k.start ≡ m.start) (eqb (low v) 0) _ _ (λ t. refl) (λ t. refl)
   start_kept CommitWrite h = at_cond (λ (k : EndMachine). k.start ≡ m.start) (makes_room m v) _ _ (λ t. refl) (λ t. refl)
-  start_kept CommitRaise h = refl
-  start_kept ArmPending h = refl
-  start_kept ArmMask h = refl
   start_kept ArmWrite h = at_cond (λ (k : EndMachine). k.start ≡ m.start) (eqb (low v) (8 * m.read)) _ _ (λ t. at_cond (λ (k : EndMachine). k.start ≡ m.start) (eqb m.want 0) _ _ (λ u. refl) (λ u. refl)) (λ t. refl)
   start_kept ArmRead h = at_cond (λ (k : EndMachine). k.start ≡ m.start) (finds_room m v) _ _ (λ t. refl) (λ t. refl)
   start_kept ArmMark h = at_cond (λ (k : EndMachine). k.start ≡ m.start) (eqb v 0) _ _ (λ t. refl) (λ t. refl)
   start_kept ArmUndoMask h = at_cond (λ (k : EndMachine). k.start ≡ m.start) (eqb m.want 0) _ _ (λ t. refl) (λ t. refl)
-  start_kept ArmUndoPending h = refl
   start_kept PollSignal h = at_cond (λ (k : EndMachine). k.start ≡ m.start) (eqb v 0) _ _ (λ t. refl) (λ t. refl)
   start_kept PollMask h = at_cond (λ (k : EndMachine). k.start ≡ m.start) (eqb m.want 0) _ _ (λ t. refl) (λ t. refl)
-  start_kept PollPending h = refl
-  start_kept MarkStore h = refl
-  start_kept MarkRaise h = refl
   start_kept PeerMark h = at_cond (λ (k : EndMachine). k.start ≡ m.start) (eqb v 0) _ _ (λ t. refl) (λ t. refl)
+  start_kept _ h = refl
 
   abbrev marks : EndMachine → Bool
   marks k = k.marked || is_marking_at k.stage
@@ -135,31 +106,24 @@ module _ (m : EndMachine) (v : ℕ) where
   mark_kept Stopped e h = refl
   mark_kept SendRead e h = at_cond (λ (k : EndMachine). marks k ≡ marks m) (is_index m.cells v) _ _ (λ t. at_cond (λ (k : EndMachine). marks k ≡ marks m) (leb (free m.cells (cell_of v) m.write) (m.len + 1)) _ _ (λ u. ap (λ (s : Stage). m.marked || is_marking_at s) (sym e)) (λ u. ap (λ (s : Stage). m.marked || is_marking_at s) (sym e))) (λ t. ap (λ (s : Stage). m.marked || is_marking_at s) (sym e))
   mark_kept SendCell e h = at_cond (λ (k : EndMachine). marks k ≡ marks m) (ltb m.done m.len) _ _ (λ t. refl) (λ t. ap (λ (s : Stage). m.marked || is_marking_at s) (sym e))
-  mark_kept SendWrite e h = ap (λ (s : Stage). m.marked || is_marking_at s) (sym e)
   mark_kept SendMask e h = at_cond (λ (k : EndMachine). marks k ≡ marks m) (eqb (low v) 0) _ _ (λ t. ap (λ (s : Stage). m.marked || is_marking_at s) (sym e)) (λ t. ap (λ (s : Stage). m.marked || is_marking_at s) (sym e))
   mark_kept SendLook e h = at_cond (λ (k : EndMachine). marks k ≡ marks m) (eqb (low v) (8 * m.old)) _ _ (λ t. ap (λ (s : Stage). m.marked || is_marking_at s) (sym e)) (λ t. ap (λ (s : Stage). m.marked || is_marking_at s) (sym e))
-  mark_kept SendRaise e h = ap (λ (s : Stage). m.marked || is_marking_at s) (sym e)
   mark_kept TakeWrite e h = at_cond (λ (k : EndMachine). marks k ≡ marks m) (is_index m.cells v) _ _ (λ t. at_cond (λ (k : EndMachine). marks k ≡ marks m) (eqb (cell_of v) m.read) _ _ (λ u. ap (λ (s : Stage). m.marked || is_marking_at s) (sym e)) (λ u. ap (λ (s : Stage). m.marked || is_marking_at s) (sym e))) (λ t. ap (λ (s : Stage). m.marked || is_marking_at s) (sym e))
   mark_kept TakeFirst e h = at_cond (λ (k : EndMachine). marks k ≡ marks m) (leb 2 (len8_of v) && ltb (len8_of v) (used m.cells m.read m.seen)) _ _ (λ t. at_cond (λ (k : EndMachine). marks k ≡ marks m) (leb 2 (offset8_of v) && leb (offset8_of v) (len8_of v)) _ _ (λ u. ap (λ (s : Stage). m.marked || is_marking_at s) (sym e)) (λ u. ap (λ (s : Stage). m.marked || is_marking_at s) (sym e))) (λ t. ap (λ (s : Stage). m.marked || is_marking_at s) (sym e))
   mark_kept TakeCell e h = at_cond (λ (k : EndMachine). marks k ≡ marks m) (ltb (m.done + 1) m.len) _ _ (λ t. refl) (λ t. ap (λ (s : Stage). m.marked || is_marking_at s) (sym e))
-  mark_kept CommitRead e h = ap (λ (s : Stage). m.marked || is_marking_at s) (sym e)
   mark_kept CommitFeature e h = at_cond (λ (k : EndMachine). marks k ≡ marks m) (eqb (low v % 2) 1) _ _ (λ t. ap (λ (s : Stage). m.marked || is_marking_at s) (sym e)) (λ t. ap (λ (s : Stage). m.marked || is_marking_at s) (sym e))
   mark_kept CommitPending e h = at_cond (λ (k : EndMachine). marks k ≡ marks m) (eqb (low v) 0) _ _ (λ t. ap (λ (s : Stage). m.marked || is_marking_at s) (sym e)) (λ t. ap (λ (s : Stage). m.marked || is_marking_at s) (sym e))
   mark_kept CommitWrite e h = at_cond (λ (k : EndMachine). marks k ≡ marks m) (makes_room m v) _ _ (λ t. ap (λ (s : Stage). m.marked || is_marking_at s) (sym e)) (λ t. ap (λ (s : Stage). m.marked || is_marking_at s) (sym e))
-  mark_kept CommitRaise e h = ap (λ (s : Stage). m.marked || is_marking_at s) (sym e)
-  mark_kept ArmPending e h = ap (λ (s : Stage). m.marked || is_marking_at s) (sym e)
-  mark_kept ArmMask e h = ap (λ (s : Stage). m.marked || is_marking_at s) (sym e)
   mark_kept ArmWrite e h = at_cond (λ (k : EndMachine). marks k ≡ marks m) (eqb (low v) (8 * m.read)) _ _ (λ t. at_cond (λ (k : EndMachine). marks k ≡ marks m) (eqb m.want 0) _ _ (λ u. ap (λ (s : Stage). m.marked || is_marking_at s) (sym e)) (λ u. ap (λ (s : Stage). m.marked || is_marking_at s) (sym e))) (λ t. ap (λ (s : Stage). m.marked || is_marking_at s) (sym e))
   mark_kept ArmRead e h = at_cond (λ (k : EndMachine). marks k ≡ marks m) (finds_room m v) _ _ (λ t. ap (λ (s : Stage). m.marked || is_marking_at s) (sym e)) (λ t. ap (λ (s : Stage). m.marked || is_marking_at s) (sym e))
   mark_kept ArmMark e h = at_cond (λ (k : EndMachine). marks k ≡ marks m) (eqb v 0) _ _ (λ t. ap (λ (s : Stage). m.marked || is_marking_at s) (sym e)) (λ t. ap (λ (s : Stage). m.marked || is_marking_at s) (sym e))
   mark_kept ArmUndoMask e h = at_cond (λ (k : EndMachine). marks k ≡ marks m) (eqb m.want 0) _ _ (λ t. ap (λ (s : Stage). m.marked || is_marking_at s) (sym e)) (λ t. ap (λ (s : Stage). m.marked || is_marking_at s) (sym e))
-  mark_kept ArmUndoPending e h = ap (λ (s : Stage). m.marked || is_marking_at s) (sym e)
   mark_kept PollSignal e h = at_cond (λ (k : EndMachine). marks k ≡ marks m) (eqb v 0) _ _ (λ t. ap (λ (s : Stage). m.marked || is_marking_at s) (sym e)) (λ t. ap (λ (s : Stage). m.marked || is_marking_at s) (sym e))
   mark_kept PollMask e h = at_cond (λ (k : EndMachine). marks k ≡ marks m) (eqb m.want 0) _ _ (λ t. ap (λ (s : Stage). m.marked || is_marking_at s) (sym e)) (λ t. ap (λ (s : Stage). m.marked || is_marking_at s) (sym e))
-  mark_kept PollPending e h = ap (λ (s : Stage). m.marked || is_marking_at s) (sym e)
   mark_kept MarkStore e h = absurd (h refl)
   mark_kept MarkRaise e h = sym (or_true m.marked) ∙ ap (λ (s : Stage). m.marked || is_marking_at s) (sym e)
   mark_kept PeerMark e h = at_cond (λ (k : EndMachine). marks k ≡ marks m) (eqb v 0) _ _ (λ t. ap (λ (s : Stage). m.marked || is_marking_at s) (sym e)) (λ t. ap (λ (s : Stage). m.marked || is_marking_at s) (sym e))
+  mark_kept _ e h = ap (λ (s : Stage). m.marked || is_marking_at s) (sym e)
 
 -- past its store of the read index a commit has given back all that was taken
 abbrev pub IsGiven : EndMachine → Type 0
@@ -174,10 +138,8 @@ module _ (m : EndMachine) (v : ℕ) (g : IsGiven m) where
   given_by Stopped e = g
   given_by SendRead e = at_cond IsGiven (is_index m.cells v) _ _ (λ t. at_cond IsGiven (leb (free m.cells (cell_of v) m.write) (m.len + 1)) _ _ (λ u. λ h. absurd (cc)) (λ u. λ h. absurd (cc))) (λ t. λ h. absurd (cc))
   given_by SendCell e = at_cond IsGiven (ltb m.done m.len) _ _ (λ t. g) (λ t. λ h. absurd (cc))
-  given_by SendWrite e = λ h. absurd (cc)
   given_by SendMask e = at_cond IsGiven (eqb (low v) 0) _ _ (λ t. λ h. absurd (cc)) (λ t. λ h. absurd (cc))
   given_by SendLook e = at_cond IsGiven (eqb (low v) (8 * m.old)) _ _ (λ t. λ h. absurd (cc)) (λ t. λ h. absurd (cc))
-  given_by SendRaise e = λ h. absurd (cc)
   given_by TakeWrite e = at_cond IsGiven (is_index m.cells v) _ _ (λ t. at_cond IsGiven (eqb (cell_of v) m.read) _ _ (λ u. λ h. absurd (cc)) (λ u. λ h. absurd (cc))) (λ t. λ h. absurd (cc))
   given_by TakeFirst e = at_cond IsGiven (leb 2 (len8_of v) && ltb (len8_of v) (used m.cells m.read m.seen)) _ _ (λ t. at_cond IsGiven (leb 2 (offset8_of v) && leb (offset8_of v) (len8_of v)) _ _ (λ u. λ h. absurd (cc)) (λ u. λ h. absurd (cc))) (λ t. λ h. absurd (cc))
   given_by TakeCell e = at_cond IsGiven (ltb (m.done + 1) m.len) _ _ (λ t. g) (λ t. λ h. absurd (cc))
@@ -185,20 +147,14 @@ module _ (m : EndMachine) (v : ℕ) (g : IsGiven m) where
   given_by CommitFeature e = at_cond IsGiven (eqb (low v % 2) 1) _ _ (λ t. λ h. given_here CommitFeature e refl) (λ t. λ h. given_here CommitFeature e refl)
   given_by CommitPending e = at_cond IsGiven (eqb (low v) 0) _ _ (λ t. λ h. given_here CommitPending e refl) (λ t. λ h. given_here CommitPending e refl)
   given_by CommitWrite e = at_cond IsGiven (makes_room m v) _ _ (λ t. λ h. given_here CommitWrite e refl) (λ t. λ h. given_here CommitWrite e refl)
-  given_by CommitRaise e = λ h. absurd (cc)
-  given_by ArmPending e = λ h. absurd (cc)
-  given_by ArmMask e = λ h. absurd (cc)
   given_by ArmWrite e = at_cond IsGiven (eqb (low v) (8 * m.read)) _ _ (λ t. at_cond IsGiven (eqb m.want 0) _ _ (λ u. λ h. absurd (cc)) (λ u. λ h. absurd (cc))) (λ t. λ h. absurd (cc))
   given_by ArmRead e = at_cond IsGiven (finds_room m v) _ _ (λ t. λ h. absurd (cc)) (λ t. λ h. absurd (cc))
   given_by ArmMark e = at_cond IsGiven (eqb v 0) _ _ (λ t. λ h. absurd (cc)) (λ t. λ h. absurd (cc))
   given_by ArmUndoMask e = at_cond IsGiven (eqb m.want 0) _ _ (λ t. λ h. absurd (cc)) (λ t. λ h. absurd (cc))
-  given_by ArmUndoPending e = λ h. absurd (cc)
   given_by PollSignal e = at_cond IsGiven (eqb v 0) _ _ (λ t. λ h. absurd (cc)) (λ t. λ h. absurd (cc))
   given_by PollMask e = at_cond IsGiven (eqb m.want 0) _ _ (λ t. λ h. absurd (cc)) (λ t. λ h. absurd (cc))
-  given_by PollPending e = λ h. absurd (cc)
-  given_by MarkStore e = λ h. absurd (cc)
-  given_by MarkRaise e = λ h. absurd (cc)
   given_by PeerMark e = at_cond IsGiven (eqb v 0) _ _ (λ t. λ h. absurd (cc)) (λ t. λ h. absurd (cc))
+  given_by _ e = λ h. absurd (cc)
 
   pub fed_given : IsGiven (fed m v)
   fed_given = given_by m.stage refl

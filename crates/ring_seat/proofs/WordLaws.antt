@@ -4,7 +4,7 @@ use Rattle.std.proofs.lemmas.Bool.Decides.{nat_tests}
 use Rattle.io_edge.specs.declared.side.Side.{Side}
 use Rattle.io_edge.specs.declared.side.Side.TheVariants.{Guest, Host}
 use Rattle.ring_machine.specs.declared.machine.Stage.{Stage}
-use Rattle.ring_machine.specs.declared.machine.Stage.TheVariants.{Idle, Stopped, SendRead, SendCell, SendWrite, SendMask, SendLook, SendRaise, TakeWrite, TakeFirst, TakeCell, CommitRead, CommitFeature, CommitPending, CommitWrite, CommitRaise, ArmPending, ArmMask, ArmWrite, ArmRead, ArmMark, ArmUndoMask, ArmUndoPending, PollSignal, PollMask, PollPending, MarkStore, MarkRaise, PeerMark}
+use Rattle.ring_machine.specs.declared.machine.Stage.TheVariants.{Idle, Stopped, SendRead, SendCell, SendMask, SendLook, SendRaise, TakeWrite, TakeFirst, TakeCell, CommitFeature, CommitPending, CommitWrite, CommitRaise, ArmPending, ArmMask, ArmWrite, ArmRead, ArmMark, ArmUndoMask, ArmUndoPending, PollSignal, PollMask, PollPending, MarkRaise, PeerMark}
 use Rattle.ring_machine.specs.declared.machine.EndMachine.{EndMachine}
 use Rattle.ring_machine.specs.declared.state.EndState.{EndState}
 use Rattle.ring_machine.specs.Places.{out_of, in_of, peer_of, low, is_index, cell_of, used, free, len8_of, offset8_of}
@@ -33,18 +33,14 @@ module _ (m : EndMachine) (v a b : ℕ) (s : Stored a b m) where
   fed_stored Stopped e = s
   fed_stored SendRead e = at_cond (Stored a b) (is_index m.cells v) _ _ (λ t. at_cond (Stored a b) (leb (free m.cells (cell_of v) m.write) (m.len + 1)) _ _ (λ u. keeps _ refl (pending_here SendRead e)) (λ u. keeps _ refl (pending_here SendRead e))) (λ t. keeps _ refl (pending_here SendRead e))
   fed_stored SendCell e = at_cond (Stored a b) (ltb m.done m.len) _ _ (λ t. keeps _ refl s.pending) (λ t. keeps _ refl (pending_here SendCell e))
-  fed_stored SendWrite e = keeps _ refl (pending_here SendWrite e)
   fed_stored SendMask e = at_cond (Stored a b) (eqb (low v) 0) _ _ (λ t. keeps _ refl (pending_here SendMask e)) (λ t. keeps _ refl (pending_here SendMask e))
   fed_stored SendLook e = at_cond (Stored a b) (eqb (low v) (8 * m.old)) _ _ (λ t. keeps _ refl (pending_here SendLook e)) (λ t. keeps _ refl (pending_here SendLook e))
-  fed_stored SendRaise e = keeps _ refl (pending_here SendRaise e)
   fed_stored TakeWrite e = at_cond (Stored a b) (is_index m.cells v) _ _ (λ t. at_cond (Stored a b) (eqb (cell_of v) m.read) _ _ (λ u. keeps _ refl (pending_here TakeWrite e)) (λ u. keeps _ refl (pending_here TakeWrite e))) (λ t. keeps _ refl (pending_here TakeWrite e))
   fed_stored TakeFirst e = at_cond (Stored a b) (leb 2 (len8_of v) && ltb (len8_of v) (used m.cells m.read m.seen)) _ _ (λ t. at_cond (Stored a b) (leb 2 (offset8_of v) && leb (offset8_of v) (len8_of v)) _ _ (λ u. keeps _ refl (pending_here TakeFirst e)) (λ u. keeps _ refl (pending_here TakeFirst e))) (λ t. keeps _ refl (pending_here TakeFirst e))
   fed_stored TakeCell e = at_cond (Stored a b) (ltb (m.done + 1) m.len) _ _ (λ t. keeps _ refl s.pending) (λ t. keeps _ refl (pending_here TakeCell e))
-  fed_stored CommitRead e = keeps _ refl (pending_here CommitRead e)
   fed_stored CommitFeature e = at_cond (Stored a b) (eqb (low v % 2) 1) _ _ (λ t. keeps _ refl (pending_here CommitFeature e)) (λ t. keeps _ refl (pending_here CommitFeature e))
   fed_stored CommitPending e = at_cond (Stored a b) (eqb (low v) 0) _ _ (λ t. keeps _ refl (pending_here CommitPending e)) (λ t. keeps _ refl (pending_here CommitPending e))
   fed_stored CommitWrite e = at_cond (Stored a b) (makes_room m v) _ _ (λ t. keeps _ refl (pending_here CommitWrite e)) (λ t. keeps _ refl (pending_here CommitWrite e))
-  fed_stored CommitRaise e = keeps _ refl (pending_here CommitRaise e)
   fed_stored ArmPending e = record { mask = s.mask; pending = refl }
   fed_stored ArmMask e = record { mask = refl; pending = pending_here ArmMask e }
   fed_stored ArmWrite e = at_cond (Stored a b) (eqb (low v) (8 * m.read)) _ _ (λ t. at_cond (Stored a b) (eqb m.want 0) _ _ (λ u. keeps _ refl (pending_here ArmWrite e)) (λ u. keeps _ refl (pending_here ArmWrite e))) (λ t. keeps _ refl (pending_here ArmWrite e))
@@ -55,9 +51,8 @@ module _ (m : EndMachine) (v a b : ℕ) (s : Stored a b m) where
   fed_stored PollSignal e = at_cond (Stored a b) (eqb v 0) _ _ (λ t. keeps _ refl (pending_here PollSignal e)) (λ t. keeps _ refl (pending_here PollSignal e))
   fed_stored PollMask e = at_cond (Stored 1 b) (eqb m.want 0) _ _ (λ t. record { mask = refl; pending = pending_here PollMask e }) (λ t. record { mask = refl; pending = pending_here PollMask e })
   fed_stored PollPending e = record { mask = s.mask; pending = refl }
-  fed_stored MarkStore e = keeps _ refl (pending_here MarkStore e)
-  fed_stored MarkRaise e = keeps _ refl (pending_here MarkRaise e)
   fed_stored PeerMark e = at_cond (Stored a b) (eqb v 0) _ _ (λ t. keeps _ refl (pending_here PeerMark e)) (λ t. keeps _ refl (pending_here PeerMark e))
+  fed_stored _ e = keeps _ refl (pending_here _ e)
 
 low_signal : (st : Stage) (w : ℕ) → w < 2 → signal_after st w < 2
 low_signal PollSignal w h = omega arith

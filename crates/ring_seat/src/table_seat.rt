@@ -4,7 +4,7 @@ ghost use Rattle.std.specs.Arc.{arc_value};
 ghost use Rattle.ring_machine.specs.Places.{words_of, signal_of};
 ghost use Rattle.ring_machine.specs.PageCalls.{is_paging, is_under_way};
 ghost use Rattle.ring_machine.specs.Steps.{is_busy_at};
-ghost use Rattle.ring_core.specs.Told.{GoesOn};
+ghost use Rattle.ring_core.specs.Told.{GoesOn, tells_nothing};
 ghost use Rattle.ring_seat.specs.Lawful.{Lawfully};
 ghost use Rattle.ring_seat.specs.Seats.{told_in, state_in, is_one, Tells};
 ghost use Rattle.ring_seat.specs.declared.view.View.TheVariants.{One};
@@ -104,6 +104,7 @@ pub fn lawful(end: &End<TableSeat>)
 {
     end.items_fit();
     let seat = end.seat();
+    // For the proof: what a value keeps is known where the value is read.
     let _signal = seat.signal;
 }
 
@@ -111,12 +112,13 @@ impl Seatlike for TableSeat {
     ghost use Rattle.std.specs.Prelude.{◌≡◌, Some, None, refl};
     ghost use Rattle.std.proofs.Common.{◌∙◌};
     ghost use Rattle.ring_seat.specs.Seats.{state_in, told_in};
+    ghost use Rattle.ring_core.specs.Told.{tells_nothing};
 
     ghost cells = { λ s. (state_in s.seat.me.0).machine.cells };
 
     ghost pages = { λ s. (state_in s.seat.me.0).pages.count };
 
-    ghost memory = { λ _. None };
+    ghost tale = { λ _. tells_nothing };
 
     ghost told = { λ s. Some (told_in s.seat.me.0) };
 

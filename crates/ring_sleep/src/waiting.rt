@@ -1,6 +1,7 @@
 //! Sleeping until the peer raises the signal.
 ghost use Rattle.std.specs.Prelude.{◌≡◌, true, false, not};
 ghost use Rattle.ring_machine.specs.declared.machine.Stage.TheVariants.{Idle};
+ghost use Rattle.ring_end_history.specs.Calls.{Came};
 ghost use Rattle.ring_sleep.specs.Sleeping.{Sleeps};
 
 use crate::parks::Parks;
@@ -15,6 +16,7 @@ pub fn sleep<S: Parks, R: Wait>(e: &mut End<S>, rt: &R)
     requires asleep { e.old.state.machine.asleep ≡ true }
     ensures awake { (e.new.state.machine.asleep ≡ false) × (e.new.state.machine.marked ≡ false) }
     ensures slept { Sleeps S.channel S.told e.old e.new }
+    ensures came { Came S.tale e.old e.new }
 {
     let backoff = Backoff::new();
     for _ in rt.forever() {
@@ -37,6 +39,7 @@ fn poll<S: Parks>(e: &mut End<S>) -> bool
     ensures asleep { e.new.state.machine.asleep ≡ not result }
     ensures unmarked { e.new.state.machine.marked ≡ false }
     ensures slept { Sleeps S.channel S.told e.old e.new }
+    ensures came { Came S.tale e.old e.new }
 {
     e.poll_signal()
 }

@@ -17,6 +17,7 @@ pub(crate) fn close(pair: &Snapshot<SockPair>, guest: GuestDone, host: HostDone)
     requires host { HostLeaves pair.now.value.host host.ended host.end }
     ensures { IsSockRun pair.now.value.guest.input result.output.items result.settled }
 {
+    // For the proof: what a value keeps is known where the value is read.
     let _pair = pair;
     SockRun {
         settled: finish(guest.end, host.end),

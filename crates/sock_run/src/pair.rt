@@ -31,6 +31,7 @@ impl Model for SockPair {
 fn are_bytes(bytes: &[u8])
     ensures { (i : ℕ) → get_or bytes.now i 0 < 256 }
 {
+    // For the proof: the numbers of a slice that is read are known to fit their type.
     let _bytes = bytes;
 }
 

@@ -48,6 +48,7 @@ fn both_here<R: Wait>(
     ensures guest { GuestLeaves pair.now.value.guest result.0.ended result.0.output.items result.0.end }
     ensures host { HostLeaves pair.now.value.host result.1.ended result.1.end }
 {
+    // For the proof: what a value keeps is known where the value is read.
     let _pair = pair;
     match start {
         Start::Ran(done) => (guest.run(rt), done),

@@ -1,3 +1,4 @@
 pub mod PortLaws
 pub mod PieceLaws
 pub mod WorkerLaws
+pub mod Leaving

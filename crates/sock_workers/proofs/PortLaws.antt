@@ -34,7 +34,7 @@ use Rattle.hv_sock.specs.Streams.{breaks_off, closes, closed_by, fault_by, is_cl
 use Rattle.hv_sock.proofs.PacketLaws.{allowed, answer_says}
 use Rattle.sock_workers.specs.declared.port.Found.{Found}
 use Rattle.sock_workers.specs.declared.port.Found.TheVariants.{Fault as FoundFault}
-use Rattle.sock_workers.specs.Ports.{Port, IsPort, HasRoom, UsesUp, FoundNone, Finds, Tries, found_of, has_gone, tried_of, told_at, memory_at, words_in}
+use Rattle.sock_workers.specs.Ports.{Port, IsPort, HasRoom, UsesUp, FoundNone, Finds, Tries, found_of, has_gone, tried_of, told_at, tale_at, words_in}
 
 pub words_more : (ps : List (List ℕ)) (p : List ℕ) → words_in (ps ++ p ∷ []) ≡ words_in ps + length p
 words_more [] p = omega arith
@@ -136,7 +136,7 @@ port_at e room seen = record { end = e; room = room; seen = seen }
 
 module _ (same : TableSeat → TableSeat → Type 0) where
   -- a read keeps it
-  pub read_keeps : (old new : Seen TableSeat) (result : Result Got SockFault) (out out' : List ℕ) → old.state.machine.stage ≡ Idle → (new.state.sent ≡ old.state.sent) × (new.spare_sent ≡ old.spare_sent) → Reads TableSeat told_at memory_at same old new result out out' → Keeps old new
+  pub read_keeps : (old new : Seen TableSeat) (result : Result Got SockFault) (out out' : List ℕ) → old.state.machine.stage ≡ Idle → (new.state.sent ≡ old.state.sent) × (new.spare_sent ≡ old.spare_sent) → Reads TableSeat told_at tale_at same old new result out out' → Keeps old new
   read_keeps old new result out out' idle kept r = ⊎_elim took refused (refusal_cases r.refusal)
     where
       took : r.refusal ≡ None → Keeps old new
@@ -175,7 +175,7 @@ module _ (same : TableSeat → TableSeat → Type 0) where
           })
 
   -- what it found
-  pub read_finds : (old new : Seen TableSeat) (room : ℕ) (seen : Bool) (result : Result Got SockFault) (out out' : List ℕ) → old.state.machine.stage ≡ Idle → has_seen old.state.past ≡ seen → Reads TableSeat told_at memory_at same old new result out out'
+  pub read_finds : (old new : Seen TableSeat) (room : ℕ) (seen : Bool) (result : Result Got SockFault) (out out' : List ℕ) → old.state.machine.stage ≡ Idle → has_seen old.state.past ≡ seen → Reads TableSeat told_at tale_at same old new result out out'
       → Finds (found_of result) (port_at old room seen) (port_at new room seen) out'
   read_finds old new room seen result out out' idle saw r = ⊎_elim took refused (refusal_cases r.refusal)
     where
@@ -214,7 +214,7 @@ module _ (same : TableSeat → TableSeat → Type 0) where
           drains past up = grind (arith, up)
 
   -- a send keeps it
-  pub send_keeps : (old new : Seen TableSeat) (p : List ℕ) (result : Result Signalled SendRefusal) → old.state.machine.stage ≡ Idle → Sends TableSeat told_at memory_at same p old new result → Keeps old new
+  pub send_keeps : (old new : Seen TableSeat) (p : List ℕ) (result : Result Signalled SendRefusal) → old.state.machine.stage ≡ Idle → Sends TableSeat told_at tale_at same p old new result → Keeps old new
   send_keeps old new p result idle s =
       let t = s.idle idle in
       let m = new.state.machine in
@@ -235,11 +235,11 @@ module _ (same : TableSeat → TableSeat → Type 0) where
           subst (λ (x : Room). HasRoom room 0 x new.state.sent) (sym (s.room.same is)) (subst (λ (ps : List (List ℕ)). HasRoom room 0 old.spare_sent ps) (sym sent) h)
 
   -- what became of the packet
-  pub send_tries : (old new : Seen TableSeat) (room : ℕ) (seen : Bool) (p : List ℕ) (result : Result Signalled SendRefusal) → old.state.machine.stage ≡ Idle → Sends TableSeat told_at memory_at same p old new result
+  pub send_tries : (old new : Seen TableSeat) (room : ℕ) (seen : Bool) (p : List ℕ) (result : Result Signalled SendRefusal) → old.state.machine.stage ≡ Idle → Sends TableSeat told_at tale_at same p old new result
       → Tries (tried_of result) p (port_at old room seen) (port_at new room seen)
   send_tries old new room seen p result idle s = by_how new.state.machine.ended refl t.call t.answer t.sent
     where
-      t : SendsIdle TableSeat told_at memory_at p old new result
+      t : SendsIdle TableSeat told_at tale_at p old new result
       t = s.idle idle
 
       by_how : (how : Ending) → new.state.machine.ended ≡ how → call_by new.state.machine.ended ≡ Send → result ≡ send_answer new.state.machine.ended new.state.machine → new.state.sent ≡ cond (is_sent new.state.machine.ended) (old.state.sent ++ p ∷ []) old.state.sent → Tries (tried_of result) p (port_at old room seen) (port_at new room seen)

@@ -11,7 +11,7 @@ use Rattle.ring_machine.specs.declared.last.Signalled.{Signalled}
 use Rattle.ring_machine.specs.Steps.{arm_begun, poll_begun, send_begun, take_begun}
 use Rattle.ring_core.specs.declared.room.Room.{Room}
 use Rattle.ring_core.specs.declared.told.Told.{Told}
-use Rattle.ring_core.specs.Told.{Memory, MakesSteps}
+use Rattle.ring_core.specs.Told.{tells_nothing, MakesSteps, Tale}
 use Rattle.ring_core.specs.Seen.{Seen}
 use Rattle.ring_seat.specs.declared.table_seat.TableSeat.{TableSeat}
 use Rattle.ring_seat.specs.Seats.{told_in}
@@ -67,8 +67,8 @@ pub record Goes (old new : Port) : Type 0 where
 abbrev pub told_at : TableSeat → Option Told
 told_at s = Some (told_in s.seat.me.0)
 
-abbrev pub memory_at : TableSeat → Option Memory
-memory_at s = None
+abbrev pub tale_at : TableSeat → Tale
+tale_at s = tells_nothing
 
 -- a want is the need of a packet of 2 to 259 words
 abbrev pub IsNeed : Option ℕ → Type 0
@@ -77,22 +77,22 @@ IsNeed (Some want) = (24 ≤ want) × (want ≤ 2080)
 
 -- it looked once for a packet, and none waited
 pub record FoundNone (old new : Seen TableSeat) : Type 0 where
-  pub looked : MakesSteps told_at memory_at (take_begun old.state.machine) [] old new
+  pub looked : MakesSteps told_at tale_at (take_begun old.state.machine) [] old new
   pub none : new.state.machine.ended ≡ Empty
 
 -- it tried once to send this packet, for which the ring had too little room
 pub record FoundFull (p : List ℕ) (old new : Seen TableSeat) : Type 0 where
-  pub tried : MakesSteps told_at memory_at (send_begun old.state.machine (length p)) p old new
+  pub tried : MakesSteps told_at tale_at (send_begun old.state.machine (length p)) p old new
   pub full : new.state.machine.ended ≡ Full
 
 -- it armed once, for this room in bytes, and its looks ended so
 pub record ArmedOnce (want : Option ℕ) (how : Ending) (old new : Seen TableSeat) : Type 0 where
-  pub armed : MakesSteps told_at memory_at (arm_begun old.state.machine (want_of want)) [] old new
+  pub armed : MakesSteps told_at tale_at (arm_begun old.state.machine (want_of want)) [] old new
   pub ended : new.state.machine.ended ≡ how
 
 -- it exchanged its signal once, which ended so
 pub record PolledOnce (how : Ending) (old new : Seen TableSeat) : Type 0 where
-  pub polled : MakesSteps told_at memory_at (poll_begun old.state.machine) [] old new
+  pub polled : MakesSteps told_at tale_at (poll_begun old.state.machine) [] old new
   pub ended : new.state.machine.ended ≡ how
 
 -- what a read found, and what became of a packet, by the answers of the end of the socket

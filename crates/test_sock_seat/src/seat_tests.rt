@@ -13,11 +13,14 @@ const END: &[u64] = &[0x3_0002_0006, 0, 1];
 #[test]
 fn lists_of_a_channel_at_an_end(rt: HostRuntime) {
     let (mut guest, mut host) = opened(&rt);
-    let sent = writes(&mut guest, &[1, 2, 3]) && shuts(&mut guest);
-    let got = reads(&mut host, &[1, 2, 3]) && ends(&mut host);
-    let back = writes(&mut host, &[4]) && shuts(&mut host);
+    let sent = writes(&mut guest, &[1, 2, 3]);
+    let shut = shuts(&mut guest);
+    let got = reads(&mut host, &[1, 2, 3]);
+    let ended = ends(&mut host);
+    let back = writes(&mut host, &[4]);
+    let shut_back = shuts(&mut host);
     let settled = finish(guest, host);
-    assert!(rt; sent && got && back);
+    assert!(rt; sent && shut && got && ended && back && shut_back);
     assert!(rt; settled.guest_sent().len() == 2 && settled.host_got().len() == 2);
     assert!(rt; settled.host_sent().len() == 2 && settled.guest_got().len() == 0);
     assert!(rt;

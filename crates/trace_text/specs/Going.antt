@@ -1,7 +1,7 @@
 -- A recorder goes on: not at all, and by some steps and then by more. A trait's laws are proved by lemmas that stand beside the definitions.
 use Rattle.std.proofs.Common.{◌≡◌, ℕ, Bool, List, [], ◌∷◌, ◌++◌, Option, refl, sym, ap, ◌∙◌, subst}
 use Rattle.io_edge.specs.declared.side.Side.{Side}
-use Rattle.ring_core.specs.Told.{Memory}
+use Rattle.ring_core.specs.Told.{Memory, Tale}
 use Rattle.ring_core.specs.declared.told.Told.{Told}
 use Rattle.trace_text.specs.Recording.{Recorded, Made, kept_of, StepsLead, StepsTell, RecordsOn}
 
@@ -17,11 +17,11 @@ tell_more : (a b : List Made) (u v w : Told) → StepsTell a u v → StepsTell b
 tell_more [] b u v w p q = subst (λ (y : Told). StepsTell b y w) p q
 tell_more (s ∷ a) b u v w p q = (p.0, p.1, tell_more a b p.0 v w p.2 q)
 
-module _ {S : Type 0} (same : S → S → Type 0) (cells : S → ℕ) (memory : S → Option Memory) (told : S → Option Told) where
-  pub goes_nowhere : (r : Recorded S) → same r.seat r.seat → RecordsOn same cells memory told r r
+module _ {S : Type 0} (same : S → S → Type 0) (cells : S → ℕ) (tale : S → Tale) (told : S → Option Told) where
+  pub goes_nowhere : (r : Recorded S) → same r.seat r.seat → RecordsOn same cells tale told r r
   goes_nowhere r h = record { seat = h; fits = refl; side = refl; size = refl; made = []; text = refl; leads = λ m e. (m, e, refl); tells = λ u e. (u, e, refl) }
 
-  pub goes_further : (r t u : Recorded S) → same r.seat u.seat → RecordsOn same cells memory told r t → RecordsOn same cells memory told t u → RecordsOn same cells memory told r u
+  pub goes_further : (r t u : Recorded S) → same r.seat u.seat → RecordsOn same cells tale told r t → RecordsOn same cells tale told t u → RecordsOn same cells tale told r u
   goes_further r t u h p q = record {
     seat = h;
     fits = q.fits ∙ p.fits;

@@ -6,7 +6,7 @@ use Rattle.ring_machine.specs.PageCalls.{next_in}
 use Rattle.ring_machine.specs.Steps.{is_busy_at}
 use Rattle.ring_machine.specs.declared.machine.EndMachine.{EndMachine}
 use Rattle.ring_machine.specs.declared.place.Op.{Op}
-use Rattle.ring_core.specs.Told.{Memory, memory_after, answer_of, GoesOn, told_step}
+use Rattle.ring_core.specs.Told.{Memory, memory_after, answer_of, GoesOn, told_step, Tale}
 use Rattle.ring_core.specs.declared.told.Told.{Told}
 use Rattle.trace_text.specs.Steps.{step_text}
 
@@ -56,12 +56,12 @@ StepsTell (s ∷ steps) u w = (v : Told) × StepTells s u v × StepsTell steps v
 
 -- A later state of a recorder. Its seat made some steps in between: they are what it kept of them, line by line. Where the seat tells its memory, they led
 -- from the words that it had to those that it has; where it tells its end's state, they are the steps that it made since, each told once
-pub record RecordsOn {S : Type 0} (same : S → S → Type 0) (cells : S → ℕ) (memory : S → Option Memory) (told : S → Option Told) (r t : Recorded S) : Type 0 where
+pub record RecordsOn {S : Type 0} (same : S → S → Type 0) (cells : S → ℕ) (tale : S → Tale) (told : S → Option Told) (r t : Recorded S) : Type 0 where
   pub seat : same r.seat t.seat
   pub fits : cells t.seat ≡ cells r.seat
   pub side : t.side ≡ r.side
   pub size : t.size ≡ r.size
   pub made : List Made
   pub text : (t.full, t.text) ≡ kept_of r.size r.side made (r.full, r.text)
-  pub leads : (m : Memory) → memory r.seat ≡ Some m → (n : Memory) × (memory t.seat ≡ Some n) × StepsLead (cells r.seat) made m n
+  pub leads : (m : Memory) → (tale r.seat).memory ≡ Some m → (n : Memory) × ((tale t.seat).memory ≡ Some n) × StepsLead (cells r.seat) made m n
   pub tells : (u : Told) → told r.seat ≡ Some u → (w : Told) × (told t.seat ≡ Some w) × StepsTell made u w

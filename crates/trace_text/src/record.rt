@@ -1,6 +1,6 @@
 //! A recorder makes the steps of its seat, and keeps their text.
-ghost use Rattle.std.specs.Prelude.{◌≡◌, ◌≢◌, ◌≤◌, ◌+◌, ℕ, true, false, [], Some, None, Option, IfOk, length, vec_len, vec_capacity};
-ghost use Rattle.ring_core.specs.Told.{Memory, memory_after, answer_of, GoesOn, told_step};
+ghost use Rattle.std.specs.Prelude.{◌≡◌, ◌≢◌, ◌≤◌, ◌+◌, ℕ, true, false, [], Some, None, Option, IfOk, length, vec_len, vec_capacity, ◌∷◌};
+ghost use Rattle.ring_core.specs.Told.{HeardJust, Memory, memory_after, answer_of, GoesOn, told_step};
 ghost use Rattle.ring_core.specs.declared.told.Told.{Told};
 ghost use Rattle.ring_machine.specs.PageCalls.{is_paging, is_under_way, next_in};
 ghost use Rattle.ring_machine.specs.Steps.{is_busy_at, fed};
@@ -85,15 +85,15 @@ impl<S: Seatlike> Seatlike for Recorder<S> {
 
     ghost pages = { λ r. S.pages r.seat };
 
-    ghost memory = { λ r. S.memory r.seat };
+    ghost tale = { λ r. S.tale r.seat };
 
     ghost told = { λ r. S.told r.seat };
 
-    ghost same = { λ r t. RecordsOn S.same S.cells S.memory S.told r t };
+    ghost same = { λ r t. RecordsOn S.same S.cells S.tale S.told r t };
 
-    ghost same_refl = { λ r. goes_nowhere S.same S.cells S.memory S.told r (S.same_refl r.seat) };
+    ghost same_refl = { λ r. goes_nowhere S.same S.cells S.tale S.told r (S.same_refl r.seat) };
 
-    ghost same_trans = { λ r t u p q. goes_further S.same S.cells S.memory S.told r t u (S.same_trans r.seat t.seat u.seat p.seat q.seat) p q };
+    ghost same_trans = { λ r t u p q. goes_further S.same S.cells S.tale S.told r t u (S.same_trans r.seat t.seat u.seat p.seat q.seat) p q };
 
     ghost same_pages = { λ r t p. S.same_pages r.seat t.seat p.seat };
 
@@ -102,8 +102,9 @@ impl<S: Seatlike> Seatlike for Recorder<S> {
         requires fits { core.now.machine.cells ≡ S.cells self.old.seat }
         requires pages { is_paging core.now.pages.call ≡ true → core.now.pages.count ≡ S.pages self.old.seat }
         requires goes_on { (u : Told) → S.told self.old.seat ≡ Some u → GoesOn (is_busy_at core.now.machine.stage) u.state core.now.machine core.now.pages.call packet.now }
-        ensures runs { (m : Memory) (op : Op) → S.memory self.old.seat ≡ Some m → next_in core.now.machine core.now.pages.call packet.now ≡ Some op → (S.memory self.new.seat ≡ Some (memory_after core.now.machine.cells op m)) × (result ≡ answer_of core.now.machine.cells op m) }
-        ensures same { RecordsOn S.same S.cells S.memory S.told self.old self.new }
+        ensures runs { (m : Memory) (op : Op) → (S.tale self.old.seat).memory ≡ Some m → next_in core.now.machine core.now.pages.call packet.now ≡ Some op → ((S.tale self.new.seat).memory ≡ Some (memory_after core.now.machine.cells op m)) × (result ≡ answer_of core.now.machine.cells op m) }
+        ensures hears { HeardJust (S.tale self.old.seat) (S.tale self.new.seat) (result ∷ []) }
+        ensures same { RecordsOn S.same S.cells S.tale S.told self.old self.new }
         ensures cells { S.cells self.new.seat ≡ S.cells self.old.seat }
         ensures silent { S.told self.old.seat ≡ None → S.told self.new.seat ≡ None }
         ensures tells { (u : Told) → S.told self.old.seat ≡ Some u → (S.told self.new.seat ≡ Some (told_step (is_busy_at core.now.machine.stage) u core.now.machine core.now.pages.call packet.now result)) × ((fed core.now.machine result).stage ≢ Stopped) }

@@ -9,7 +9,7 @@ use Rattle.hv_sock.proofs.calls.read_next.Goals as goal
 pub returns-in-Ok-clause-reads : goal.returns-in-Ok-clause-reads
 returns-in-Ok-clause-reads g c =
     let told = g.S.Seatlike.told in
-    let memory = g.S.Seatlike.memory in
+    let tale = g.S.Seatlike.tale in
     let same = g.S.Seatlike.same in
     let old = c.args.end.now in
     let new = c.take_packet.new.end in
