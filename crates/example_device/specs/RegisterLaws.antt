@@ -1,5 +1,5 @@
 -- The packets of a register keep to what the packets of a channel keep to.
-use Rattle.std.specs.Prelude.{◌≡◌, ℕ, Bool, true, false, Option, Some, None}
+use Rattle.std.specs.Prelude.{Bool, true, false, Option, Some, None}
 use Rattle.std.proofs.Common.{refl, sym, subst}
 use Rattle.channel_model.specs.Amounts.{HasNoMessages}
 use Rattle.channel_model.specs.WireFormat.{Keeps}

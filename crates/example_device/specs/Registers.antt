@@ -1,6 +1,6 @@
 -- A register: a request stores a value, and the reply is the one that it held before. A packet has a head, an id and a value. No messages go back besides the
 -- answers.
-use Rattle.std.specs.Prelude.{ℕ, true, false, List, [], ◌∷◌, slice_index_or, Option, Some, None}
+use Rattle.std.specs.Prelude.{ℕ, true, false, List, [], ◌∷◌, slice_index_or, Some, None}
 use Rattle.page_kept.specs.declared.item.Item.{Item}
 use Rattle.channel_model.specs.WireFormat.{WireFormat}
 use Rattle.channel_protocol.specs.Paged.{in_packets}

@@ -5,6 +5,7 @@ mod register;
 mod register_protocol;
 mod register_run;
 mod register_seat;
+mod register_shared;
 #[cfg(test)]
 mod tests;
 
@@ -12,3 +13,4 @@ pub use register::Register;
 pub use register_protocol::RegisterProtocol;
 pub use register_run::{Stored, store_all};
 pub use register_seat::RegisterSeat;
+pub use register_shared::{Served, serve_register};

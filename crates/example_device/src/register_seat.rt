@@ -10,7 +10,7 @@ use std::sync::Wait;
 /// A place at a register's history: each call is one entry there.
 #[derive(Drop)]
 pub struct RegisterSeat {
-    seat: HistSeat<Register>,
+    pub(crate) seat: HistSeat<Register>,
 }
 
 impl RegisterSeat {
@@ -32,11 +32,11 @@ impl Device<RegisterProtocol> for RegisterSeat {
 
     ghost serves = { λ s t. Unit {0} };
 
-    ghost same = { λ s t. t.seat.number ≡ s.seat.number };
+    ghost same = { λ s t. (t.seat.lock ≡ s.seat.lock) × (t.seat.number ≡ s.seat.number) };
 
-    ghost same_refl = { λ s. refl };
+    ghost same_refl = { λ s. (refl, refl) };
 
-    ghost same_trans = { λ s t u p q. q ∙ p };
+    ghost same_trans = { λ s t u p q. (q.0 ∙ p.0, q.1 ∙ p.1) };
 
     fn left(&self) -> u32 {
         self.seat.left()

@@ -10,6 +10,7 @@ fn hosts_ask_services_and_guests_ask_devices(rt: HostRuntime) {
     check(&rt, side_that_asks(DeviceKind::Down) == Side::Host);
     check(&rt, side_that_asks(DeviceKind::Disk) == Side::Guest);
     check(&rt, side_that_asks(DeviceKind::Net) == Side::Guest);
+    check(&rt, side_that_asks(DeviceKind::Kvp) == Side::Host);
 }
 
 #[test]

@@ -1,8 +1,7 @@
 -- What the calls of an end make of its pages under the ids of its requests.
-use Rattle.std.proofs.Common.{◌≡◌, ◌≢◌, ℕ, zero, suc, ◌+◌, ◌<◌, ◌≤◌, ◌==◌, Bool, true, false, cond, List, [], ◌∷◌, ◌++◌, length, get_or, Option, Some, None, refl, sym, ap, ◌∙◌, subst, arith}
+use Rattle.std.proofs.Common.{◌≡◌, ◌≢◌, ℕ, zero, suc, ◌==◌, Bool, true, false, cond, List, [], ◌∷◌, ◌++◌, length, get_or, None, refl, sym, ap, ◌∙◌, subst}
 use Rattle.pkt_desc.specs.Packets.{kind_of, id_of}
 use Rattle.io_edge.specs.declared.side.Side.{Side}
-use Rattle.page_kept.specs.declared.due.Due.TheVariants.{Clear}
 use Rattle.page_kept.specs.declared.item.Item.{Item}
 use Rattle.page_kept.specs.declared.kept.Kept.{Kept}
 use Rattle.page_kept.specs.declared.owner.Owner.{Owner}
@@ -21,10 +20,10 @@ use Rattle.ring_core.specs.Seen.{Seen, Kept as SeenKept}
 use Rattle.worker_port.specs.Line.{paged_end}
 use Rattle.worker_port.specs.declared.found.Tried.{Tried}
 use Rattle.worker_port.specs.declared.found.Tried.TheVariants.{Sent as TriedSent, Full as TriedFull, Broken as TriedBroken}
-use Rattle.worker_port.specs.Homes.{HasHome, KeepsHome, SendsHome, open_tried}
+use Rattle.worker_port.specs.Homes.{HasHome, KeepsHome, SendsHome}
 use Rattle.ring_core.proofs.Paging.{first_of}
 use Rattle.worker_port.proofs.PageLaws.{is_more, is_zero, sent_pages, took_pages}
-use Rattle.worker_port.proofs.SendLaws.{Stored, stored}
+use Rattle.worker_port.proofs.SendLaws.{Stored}
 
 abbrev HomeOf : Side → (ℕ → Bool) → List (List ℕ) → Kept → Type 0
 HomeOf s f got k = HomeKept s k.count f (keeper (layout k.count) s got k)

@@ -1,8 +1,7 @@
 -- The run of two ends, in items as they are read.
-use Rattle.std.proofs.Common.{◌≡◌, ℕ, List, [], ◌∷◌, ◌++◌, length, map, refl, sym, ap, ◌∙◌, subst, Option}
+use Rattle.std.proofs.Common.{◌≡◌, ℕ, List, [], ◌∷◌, ◌++◌, map, refl, sym, ap, ◌∙◌, subst, Option}
 use Rattle.page_kept.specs.declared.item.Item.{Item}
 use Rattle.page_kept.specs.Items.{item_of, packets}
-use Rattle.channel_trace.specs.Filled.{filled}
 use Rattle.channel_trace.specs.Laws.{AreOfOneRun}
 use Rattle.channel_trace.specs.Runs.{IsFront, sent_of, got_of, guest_of}
 use Rattle.channel_trace.proofs.Filling.{all_sent, all_got, runs_filled}

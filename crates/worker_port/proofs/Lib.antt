@@ -8,3 +8,4 @@ pub mod ItemLaws
 pub mod ItemSteps
 pub mod ItemRuns
 pub mod LentLaws
+pub mod CameLaws

@@ -1,6 +1,6 @@
 -- What the calls of an end leave of its pages.
-use Rattle.std.proofs.Common.{◌≡◌, ◌≢◌, ℕ, zero, suc, ◌+◌, ◌*◌, ◌<◌, ◌≤◌, ◌==◌, ◌⊎◌, Bool, true, false, cond, eqb, ltb, take, List, [], ◌∷◌, ◌++◌, length, get_or, set, Option, Some, None, refl, sym, ap, ◌∙◌, subst, arith, inl, inr}
-use Rattle.std.specs.Prelude.{slice_get, slice_index_or, is_some}
+use Rattle.std.proofs.Common.{◌≡◌, ◌≢◌, ℕ, zero, suc, ◌+◌, ◌*◌, ◌<◌, ◌≤◌, ◌==◌, ◌⊎◌, Bool, true, false, ltb, take, List, [], ◌∷◌, ◌++◌, length, get_or, set, Option, Some, None, refl, sym, ap, ◌∙◌, subst, arith, inl, inr}
+use Rattle.std.specs.Prelude.{slice_index_or, is_some}
 use Rattle.std.proofs.lemmas.Bool.Decides.{nat_tests}
 use Rattle.std.proofs.lemmas.List.{length-set}
 use Rattle.page_kept.specs.declared.due.Due.{Due}
@@ -11,26 +11,26 @@ use Rattle.page_kept.specs.declared.owner.Owner.{Owner}
 use Rattle.page_kept.specs.declared.owner.Owner.TheVariants.{Has, Lent, Held, Away}
 use Rattle.page_kept.specs.declared.page_call.PageCall.{PageCall}
 use Rattle.page_kept.specs.declared.page_call.PageCall.TheVariants.{Off, StoreWord, LoadWords}
-use Rattle.page_kept.specs.Items.{item_of, packets, values}
+use Rattle.page_kept.specs.Items.{item_of, values}
 use Rattle.page_kept.specs.Kept.{copy_in, first_page, gives_back, has_back, holds_now, is_held, is_lent, lends_out, lent_words, may_hold, pages_sent, pages_took, with_due, with_sent, with_took}
 use Rattle.page_kept.specs.Layouts.{Loan, layout}
 use Rattle.page_kept.specs.Stepped.{page_fed, page_loaded_at}
 use Rattle.page_kept.proofs.Loans as loans
 use Rattle.pkt_desc.specs.Packets.{kind_of, id_of}
 use Rattle.ring_machine.specs.declared.state.EndState.{EndState}
-use Rattle.ring_machine.specs.PageCalls.{after_page, newest, paged}
+use Rattle.ring_machine.specs.PageCalls.{newest}
 use Rattle.ring_machine.proofs.Sound.{at_cond}
 use Rattle.ring_core.specs.declared.told.Told.{Told}
-use Rattle.ring_core.specs.Laying.{laid, laid_at, stored_all, RanStores}
-use Rattle.ring_core.specs.Loading.{Loads, LoadsAll}
+use Rattle.ring_core.specs.Laying.{laid, laid_at, RanStores}
+use Rattle.ring_core.specs.Loading.{Loads}
 use Rattle.ring_core.specs.PageRuns.{RanPages, page_afters}
 use Rattle.ring_core.specs.Pages.{IsClear, along, items_of, last_words}
 use Rattle.ring_core.specs.Seen.{Seen}
-use Rattle.ring_core.specs.Told.{Memory}
+use Rattle.ring_core.specs.Told.{Tale}
 use Rattle.ring_core.proofs.Laying.{stored_is}
 use Rattle.ring_core.proofs.Paging.{first_of, last_more, newest_tail, none_along, other_of, values_long}
 use Rattle.page_table.specs.Table.{part_in}
-use Rattle.worker_port.specs.Line.{AreFew, page_places, page_words, words_at, words_of, words_sent}
+use Rattle.worker_port.specs.Line.{AreFew, page_places, page_words, words_at}
 
 by_test : {P : Type 0} (b : Bool) → (b ≡ true → P) → (b ≡ false → P) → P
 by_test true t f = t refl
@@ -186,16 +186,16 @@ same_afters s c (v ∷ vs) =
     let b = same_fed e.pages.call e.pages (newest e.got) v in
     record { count = b.count ∙ a.count; sent = b.sent ∙ a.sent; owners = b.owners ∙ a.owners }
 
-same_ran : (s t : EndState) (c : PageCall) (told told' : Option Told) (memory memory' : Option Memory) → RanPages s t c told told' memory memory' → SamePages s.pages t.pages
-same_ran s t c told told' memory memory' ran = subst (λ (x : EndState). SamePages s.pages x.pages) (sym ran.state) (same_afters s c ran.values)
+same_ran : (s t : EndState) (c : PageCall) (told told' : Option Told) (tale tale' : Tale) → RanPages s t c told told' tale tale' → SamePages s.pages t.pages
+same_ran s t c told told' tale tale' ran = subst (λ (x : EndState). SamePages s.pages x.pages) (sym ran.state) (same_afters s c ran.values)
 
-ran_tells : (s t : EndState) (c : PageCall) (told told' : Option Told) (memory memory' : Option Memory) → RanPages s t c told told' memory memory' → is_some told' ≡ is_some told
-ran_tells s t c (Some u) told' memory memory' ran = ap is_some (ran.tells u refl)
-ran_tells s t c None told' memory memory' ran = ap is_some (ran.silent refl)
+ran_tells : (s t : EndState) (c : PageCall) (told told' : Option Told) (tale tale' : Tale) → RanPages s t c told told' tale tale' → is_some told' ≡ is_some told
+ran_tells s t c (Some u) told' tale tale' ran = ap is_some (ran.tells u refl)
+ran_tells s t c None told' tale tale' ran = ap is_some (ran.silent refl)
 
-pub stores_tell : (s t : EndState) (q : ℕ) (ws : List ℕ) (told told' : Option Told) (memory memory' : Option Memory) → RanStores s t q ws told told' memory memory' → is_some told' ≡ is_some told
-stores_tell s t q ws (Some u) told' memory memory' ran = ap is_some (ran.tells u refl)
-stores_tell s t q ws None told' memory memory' ran = ap is_some (ran.silent refl)
+pub stores_tell : (s t : EndState) (q : ℕ) (ws : List ℕ) (told told' : Option Told) (tale tale' : Tale) → RanStores s t q ws told told' tale tale' → is_some told' ≡ is_some told
+stores_tell s t q ws (Some u) told' tale tale' ran = ap is_some (ran.tells u refl)
+stores_tell s t q ws None told' tale tale' ran = ap is_some (ran.silent refl)
 
 pub newest_more : (ps : List (List ℕ)) (p : List ℕ) → newest (ps ++ p ∷ []) ≡ p
 newest_more [] p = refl
@@ -229,7 +229,7 @@ pub record TakenWhole {S : Type 0} (told : S → Option Told) (same : S → S �
   pub spare_sent : new.spare_sent ≡ mid.spare_sent
   pub same_seat : same mid.seat new.seat
 
-module _ {S : Type 0} (told : S → Option Told) (memory : S → Option Memory) (same : S → S → Type 0) (again : (s : S) → same s s) (k : Kept) (mid new : Seen S) (p : List ℕ) (got : List (List ℕ)) (list : mid.state.got ≡ got ++ p ∷ []) where
+module _ {S : Type 0} (told : S → Option Told) (tale : S → Tale) (same : S → S → Type 0) (again : (s : S) → same s s) (k : Kept) (mid new : Seen S) (p : List ℕ) (got : List (List ℕ)) (list : mid.state.got ≡ got ++ p ∷ []) where
   -- nothing was done
   stays : (ws : List ℕ) → TakenPages k mid.state.pages p ws → new ≡ mid → TakenWhole told same k p mid new
   stays ws pages e =
@@ -255,7 +255,7 @@ module _ {S : Type 0} (told : S → Option Told) (memory : S → Option Memory) 
       stays [] (subst (λ x. TakenPages k x p []) (sym pages) (record { count = refl; sent = refl; held = λ h. h; listed = refl; clear = λ some. absurd (some none); few = omega arith; none = λ _. (refl, refl); some = λ some. absurd (some none) })) e
 
   -- and in one with some
-  with_some : k.count ≢ 0 → k.due ≡ Clear → TookPages k mid.state.pages p → Loads S told memory same mid new → TakenWhole told same k p mid new
+  with_some : k.count ≢ 0 → k.due ≡ Clear → TookPages k mid.state.pages p → Loads S told tale same mid new → TakenWhole told same k p mid new
   with_some some clear took loads = by took.items
     where
       by : ((mid.state.pages.due ≡ k.due) × (mid.state.pages.got ≡ k.got ++ item_of p [] ∷ [])) ⊎ ((q : ℕ) × (n : ℕ) × (mid.state.pages.due ≡ DueLoads q n 0) × (mid.state.pages.got ≡ k.got)) → TakenWhole told same k p mid new
@@ -266,7 +266,7 @@ module _ {S : Type 0} (told : S → Option Told) (memory : S → Option Memory) 
           let n : ℕ = due.1 in
           let all = loads.all q n 0 due.2 in
           let run = all.2 in
-          let same_ws = same_ran mid.state new.state (LoadWords q n 0) (told mid.seat) (told new.seat) (memory mid.seat) (memory new.seat) run.ran in
+          let same_ws = same_ran mid.state new.state (LoadWords q n 0) (told mid.seat) (told new.seat) (tale mid.seat) (tale new.seat) run.ran in
           let ws : List ℕ = last_words new.state.pages.got in
           let last = newest_more got p in
           let is : newest mid.state.got ≡ p = ap newest list ∙ last in
@@ -284,7 +284,7 @@ module _ {S : Type 0} (told : S → Option Told) (memory : S → Option Memory) 
             };
             owners = same_ws.owners;
             items = same_ws.sent;
-            tells = ran_tells mid.state new.state (LoadWords q n 0) (told mid.seat) (told new.seat) (memory mid.seat) (memory new.seat) run.ran;
+            tells = ran_tells mid.state new.state (LoadWords q n 0) (told mid.seat) (told new.seat) (tale mid.seat) (tale new.seat) run.ran;
             packets_room = omega (arith, run.room.0, places_some k.count 1 some);
             words_room = omega (arith, run.room.1, all.1, words_some k.count 1 some);
             machine = loads.kept.machine;
@@ -298,7 +298,7 @@ module _ {S : Type 0} (told : S → Option Told) (memory : S → Option Memory) 
           not_clear : (q n : ℕ) → Clear ≡ DueLoads q n 0 → ⊥
           not_clear q n e = absurd (cc)
 
-  pub taken_whole : IsClear k → mid.state.pages ≡ pages_took (layout k.count) k (newest mid.state.got) → (mid.state.pages.count ≢ 0 → Loads S told memory same mid new) → (mid.state.pages.count ≡ 0 → new ≡ mid) → TakenWhole told same k p mid new
+  pub taken_whole : IsClear k → mid.state.pages ≡ pages_took (layout k.count) k (newest mid.state.got) → (mid.state.pages.count ≢ 0 → Loads S told tale same mid new) → (mid.state.pages.count ≡ 0 → new ≡ mid) → TakenWhole told same k p mid new
   taken_whole clear pages loads none =
       let is : newest mid.state.got ≡ p = ap newest list ∙ newest_more got p in
       let took : mid.state.pages ≡ pages_took (layout k.count) k p = pages ∙ ap (pages_took (layout k.count) k) is in

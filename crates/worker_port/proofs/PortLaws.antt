@@ -7,7 +7,7 @@ use Rattle.channel_trace.specs.Runs.{sent_of, got_of, has_marked}
 use Rattle.ring_machine.specs.declared.last.Armed.{Armed}
 use Rattle.ring_machine.specs.declared.last.Armed.TheVariants.{Asleep, Work}
 use Rattle.ring_machine.specs.declared.machine.Ending.{Ending}
-use Rattle.ring_machine.specs.declared.machine.Ending.TheVariants.{FellAsleep, FoundWork, NoSignal, Woke, Full, BadPeer, SentQuiet, SentRaised}
+use Rattle.ring_machine.specs.declared.machine.Ending.TheVariants.{FellAsleep, FoundWork, Marked, NoSignal, Woke, Full, BadPeer, SentQuiet, SentRaised}
 use Rattle.ring_machine.specs.Endings.{Leaves, LeavesBy, is_asleep, is_dozed, want_of, send_answer, is_honest_send}
 use Rattle.ring_machine.specs.declared.last.Signalled.{Signalled}
 use Rattle.ring_machine.specs.declared.last.SendRefusal.{SendRefusal}
@@ -21,12 +21,11 @@ use Rattle.ring_machine.specs.declared.machine.Stage.TheVariants.{Idle, Stopped,
 use Rattle.ring_machine.specs.declared.state.EndState.{EndState}
 use Rattle.ring_machine.specs.Places.{low, free, is_index, cell_of}
 use Rattle.ring_machine.specs.States.{afters, entered, past_of, sent_by}
-use Rattle.ring_machine.specs.EndCalls.{Arm, Poll, Send}
+use Rattle.ring_machine.specs.EndCalls.{Arm, Mark as MarkCall, Poll, Send}
 use Rattle.ring_machine.specs.Steps.{is_broken, is_busy_at, is_sent, arm_begun, call_by, fed_at, finds_room, mark_begun, poll_begun, send_begun}
 use Rattle.ring_machine.proofs.Sound.{at_cond}
 use Rattle.ring_core.specs.declared.told.Told.{Told}
-use Rattle.ring_core.specs.Told.{Memory, Ran}
-use Rattle.ring_sleep.proofs.Telling.{told_of}
+use Rattle.ring_core.specs.Told.{Ran, Tale}
 use Rattle.ring_sleep.specs.Sleeping.{Sleeps}
 use Rattle.page_kept.specs.declared.item.Item.{Item}
 use Rattle.page_kept.specs.declared.kept.Kept.{Kept as Pages}
@@ -70,6 +69,57 @@ slept_line channel told old new s before after h = record {
   size = subst (λ n. (512 ≤ n) × (n ≤ 16777216)) (sym s.cells) h.size;
   pages = quiet_items old new s.kept h.pages;
 }
+
+-- after a call that changes neither list
+quiet_line : {S : Type 0} (told : S → Option Told) (old new : Seen S) → Kept old new → new.state.machine.stage ≡ Idle → new.state.machine.cells ≡ old.state.machine.cells → new.state.machine.start ≡ old.state.machine.start
+    → new.state.machine.read ≡ old.state.machine.read → sent_of new.state.past ≡ sent_of old.state.past → got_of new.state.past ≡ got_of old.state.past → new.state.machine.marked ≡ has_marked new.state.past → IsLine told old → IsLine told new
+quiet_line told old new kept idle cells start read sent got mark h = record {
+  rests = ap is_busy_at idle;
+  dozes = λ _. idle;
+  honest = λ _. idle;
+  sent = sent ∙ (h.sent ∙ sym kept.sent);
+  got = got ∙ (h.got ∙ sym kept.got);
+  packets = λ i p e. h.packets i p (ap (λ l. slice_get l i) (sym kept.got) ∙ e);
+  committed = start ∙ (h.committed ∙ sym read);
+  mark = mark;
+  size = subst (λ n. (512 ≤ n) × (n ≤ 16777216)) (sym cells) h.size;
+  pages = quiet_items old new kept h.pages;
+}
+
+-- what an arm, an exchange of the signal and a mark add to the past
+arm_adds : (how : Ending) (saw : Bool) (past : List (Event (List ℕ))) → call_by how ≡ Arm → (sent_of (past_of how saw [] past) ≡ sent_of past) × (got_of (past_of how saw [] past) ≡ got_of past) × (has_marked (past_of how saw [] past) ≡ has_marked past)
+arm_adds FellAsleep saw past e = (refl, refl, refl)
+arm_adds FoundWork true past e = (refl, refl, refl)
+arm_adds FoundWork false past e = (refl, refl, refl)
+arm_adds _ saw past e = absurd (cc)
+
+poll_adds : (how : Ending) (saw : Bool) (past : List (Event (List ℕ))) → call_by how ≡ Poll → (sent_of (past_of how saw [] past) ≡ sent_of past) × (got_of (past_of how saw [] past) ≡ got_of past) × (has_marked (past_of how saw [] past) ≡ has_marked past)
+poll_adds NoSignal saw past e = (refl, refl, refl)
+poll_adds Woke saw past e = (refl, refl, refl)
+poll_adds _ saw past e = absurd (cc)
+
+mark_adds : (how : Ending) (saw : Bool) (past : List (Event (List ℕ))) → call_by how ≡ MarkCall → (sent_of (past_of how saw [] past) ≡ sent_of past) × (got_of (past_of how saw [] past) ≡ got_of past) × (has_marked (past_of how saw [] past) ≡ true)
+mark_adds Marked saw past e = (refl, refl, refl)
+mark_adds _ saw past e = absurd (cc)
+
+module _ {S : Type 0} (told : S → Option Told) (old new : Seen S) (kept : Kept old new) (leaves : Leaves old.state.machine new.state.machine) (past : new.state.past ≡ past_of new.state.machine.ended new.state.machine.saw [] old.state.past)
+    (unmarked : old.state.machine.marked ≡ false) (h : IsLine told old) where
+  pub arm_line : LeavesBy Arm old.state.machine new.state.machine → call_by new.state.machine.ended ≡ Arm → IsLine told new
+  arm_line after call =
+      let adds = arm_adds new.state.machine.ended new.state.machine.saw old.state.past call in
+      quiet_line told old new kept (after.idle (λ e. cc) (λ e. cc)) leaves.cells (after.start (λ e. cc)) (after.read (λ e. cc)) (ap sent_of past ∙ adds.0) (ap got_of past ∙ adds.1)
+      (after.unmarked (λ e. cc) ∙ (sym unmarked ∙ (h.mark ∙ sym (ap has_marked past ∙ adds.2)))) h
+
+  pub poll_line : LeavesBy Poll old.state.machine new.state.machine → call_by new.state.machine.ended ≡ Poll → IsLine told new
+  poll_line after call =
+      let adds = poll_adds new.state.machine.ended new.state.machine.saw old.state.past call in
+      quiet_line told old new kept (after.idle (λ e. cc) (λ e. cc)) leaves.cells (after.start (λ e. cc)) (after.read (λ e. cc)) (ap sent_of past ∙ adds.0) (ap got_of past ∙ adds.1)
+      (after.unmarked (λ e. cc) ∙ (sym unmarked ∙ (h.mark ∙ sym (ap has_marked past ∙ adds.2)))) h
+
+  pub mark_line : LeavesBy MarkCall old.state.machine new.state.machine → call_by new.state.machine.ended ≡ MarkCall → IsLine told new
+  mark_line after call =
+      let adds = mark_adds new.state.machine.ended new.state.machine.saw old.state.past call in
+      quiet_line told old new kept (after.idle (λ e. cc) (λ e. cc)) leaves.cells (after.start (λ e. cc)) (after.read (λ e. cc)) (ap sent_of past ∙ adds.0) (ap got_of past ∙ adds.1) (after.marked refl ∙ sym (ap has_marked past ∙ adds.2)) h
 
 -- a send adds nothing that came, and no mark
 sent_got : (how : Ending) (saw : Bool) (p : List ℕ) (past : List (Event (List ℕ))) → call_by how ≡ Send → got_of (past_of how saw p past) ≡ got_of past
@@ -234,17 +284,17 @@ steps_wait b n k [] = k
 steps_wait b n k (v ∷ vs) = let e : EndState = afters b vs in step_waits e.machine v n e.machine.stage refl (steps_wait b n k vs)
 
 -- a call that began with this wait leaves it to an end that is asleep
-ran_waits : (n : ℕ) (s t : EndState) (told told' : Option Told) (memory memory' : Option Memory) → Waits n s.machine.stage s.machine.asleep s.machine.want → Ran s t told told' memory memory'
+ran_waits : (n : ℕ) (s t : EndState) (told told' : Option Told) (tale tale' : Tale) → Waits n s.machine.stage s.machine.asleep s.machine.want → Ran s t told told' tale tale'
     → t.machine.stage ≡ Idle → t.machine.asleep ≡ true → t.machine.want ≡ n
-ran_waits n s t told told' memory memory' waits ran idle =
+ran_waits n s t told told' tale tale' waits ran idle =
     subst (λ (st : Stage). Waits n st t.machine.asleep t.machine.want) idle
     (subst (λ (u : EndState). Waits n u.machine.stage u.machine.asleep u.machine.want) (sym ran.state) (steps_wait s n waits ran.values))
 
 -- what an arm waits for, where it fell asleep
-pub arm_waits : (want : Option ℕ) (s t : EndState) (told told' : Option Told) (memory memory' : Option Memory) → s.machine.asleep ≡ false → Ran (entered s (arm_begun s.machine (want_of want)) []) t told told' memory memory'
+pub arm_waits : (want : Option ℕ) (s t : EndState) (told told' : Option Told) (tale tale' : Tale) → s.machine.asleep ≡ false → Ran (entered s (arm_begun s.machine (want_of want)) []) t told told' tale tale'
     → t.machine.stage ≡ Idle → t.machine.asleep ≡ true → t.machine.want ≡ want_of want
-arm_waits want s t told told' memory memory' awake ran =
-    ran_waits (want_of want) (entered s (arm_begun s.machine (want_of want)) []) t told told' memory memory'
+arm_waits want s t told told' tale tale' awake ran =
+    ran_waits (want_of want) (entered s (arm_begun s.machine (want_of want)) []) t told told' tale tale'
     (by_first (eqb (want_of want) 0) (awake, refl)) ran
   where
     by_first : (b : Bool) → (s.machine.asleep ≡ false) × (want_of want ≡ want_of want) → Waits (want_of want) (cond b ArmMask ArmPending) s.machine.asleep (want_of want)
@@ -252,9 +302,9 @@ arm_waits want s t told told' memory memory' awake ran =
     by_first false k = k
 
 -- and an end that sleeps on waits for what it waited for
-pub poll_waits : (s t : EndState) (told told' : Option Told) (memory memory' : Option Memory) → Ran (entered s (poll_begun s.machine) []) t told told' memory memory'
+pub poll_waits : (s t : EndState) (told told' : Option Told) (tale tale' : Tale) → Ran (entered s (poll_begun s.machine) []) t told told' tale tale'
     → t.machine.stage ≡ Idle → t.machine.asleep ≡ true → t.machine.want ≡ s.machine.want
-poll_waits s t told told' memory memory' ran = ran_waits s.machine.want (entered s (poll_begun s.machine) []) t told told' memory memory' refl ran
+poll_waits s t told told' tale tale' ran = ran_waits s.machine.want (entered s (poll_begun s.machine) []) t told told' tale tale' refl ran
 
 -- what a mark under way, or one that has ended, keeps of the last send that had too little room
 abbrev Marks : ℕ → ℕ → EndMachine → Type 0
@@ -276,9 +326,9 @@ steps_mark : (b : EndState) (room words : ℕ) → MarksAt room words b.machine.
 steps_mark b room words k [] = k
 steps_mark b room words k (v ∷ vs) = let e : EndState = afters b vs in step_marks e.machine v room words e.machine.stage refl (steps_mark b room words k vs)
 
-pub mark_keeps : (s t : EndState) (told told' : Option Told) (memory memory' : Option Memory) → Ran (entered s (mark_begun s.machine) []) t told told' memory memory'
+pub mark_keeps : (s t : EndState) (told told' : Option Told) (tale tale' : Tale) → Ran (entered s (mark_begun s.machine) []) t told told' tale tale'
     → t.machine.stage ≡ Idle → (t.machine.room ≡ s.machine.room) × (t.machine.words ≡ s.machine.words)
-mark_keeps s t told told' memory memory' ran idle =
+mark_keeps s t told told' tale tale' ran idle =
     subst (λ (st : Stage). MarksAt s.machine.room s.machine.words st t.machine) idle
     (subst (λ (u : EndState). MarksAt s.machine.room s.machine.words u.machine.stage u.machine) (sym ran.state) (steps_mark (entered s (mark_begun s.machine) []) s.machine.room s.machine.words (refl, refl) ran.values))
 
@@ -324,9 +374,9 @@ steps_send : (b : EndState) (n : ℕ) → SendsAt n b.machine.stage b.machine �
 steps_send b n k [] = k
 steps_send b n k (v ∷ vs) = let e : EndState = afters b vs in step_sends e.machine v n e.machine.stage refl (steps_send b n k vs)
 
-pub send_finds : (n : ℕ) (p : List ℕ) (s t : EndState) (told told' : Option Told) (memory memory' : Option Memory) → Ran (entered s (send_begun s.machine n) p) t told told' memory memory'
+pub send_finds : (n : ℕ) (p : List ℕ) (s t : EndState) (told told' : Option Told) (tale tale' : Tale) → Ran (entered s (send_begun s.machine n) p) t told told' tale tale'
     → t.machine.stage ≡ Idle → t.machine.ended ≡ Full → (t.machine.room ≤ n + 1) × (t.machine.words ≡ n)
-send_finds n p s t told told' memory memory' ran idle =
+send_finds n p s t told told' tale tale' ran idle =
     subst (λ (st : Stage). SendsAt n st t.machine) idle
     (subst (λ (u : EndState). SendsAt n u.machine.stage u.machine) (sym ran.state) (steps_send (entered s (send_begun s.machine n) p) n refl ran.values))
 

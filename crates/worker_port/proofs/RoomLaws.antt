@@ -66,14 +66,14 @@ no_lack : {A Q R : Type 0} (s : WireFormat Item A Q R) (besides : Bool) (asks : 
     → has_room how ≡ true
 no_lack s besides asks Marked mine none h = refl
 no_lack s besides asks PeerMarked mine none h = refl
-no_lack s besides asks Broken mine none h = refl
+no_lack s besides asks (Broken why) mine none h = refl
 no_lack s besides asks (RoomEnd packets words left) mine none h = absurd (none h)
 
 no_call_lack : {A Q R : Type 0} (s : WireFormat Item A Q R) (besides : Bool) (most serve : ℕ) (stops : Bool) (how : Ended) (mine : List (Event Item)) → (CameOver s.is_request most (room_of besides most) mine → ⊥)
     → (stops ≡ false → AskedOver (is_asked s) serve mine → ⊥) → ServeLacksFor s besides most serve stops how mine → has_room how ≡ true
 no_call_lack s besides most serve stops Marked mine none few h = refl
 no_call_lack s besides most serve stops PeerMarked mine none few h = refl
-no_call_lack s besides most serve stops Broken mine none few h = refl
+no_call_lack s besides most serve stops (Broken why) mine none few h = refl
 no_call_lack s besides most serve stops (RoomEnd packets words left) mine none few (inl over) = absurd (none over)
 no_call_lack s besides most serve stops (RoomEnd packets words left) mine none few (inr over) = absurd (few over.0 over.1)
 

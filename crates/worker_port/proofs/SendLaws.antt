@@ -1,5 +1,5 @@
 -- What a send leaves of the pages of an end, behind page words that were stored for the packet.
-use Rattle.std.proofs.Common.{◌≡◌, ◌≢◌, ℕ, ◌+◌, ◌≤◌, ◌==◌, Bool, true, false, cond, take, List, [], ◌∷◌, ◌++◌, length, Option, refl, sym, ap, ◌∙◌, subst, arith, inl, inr}
+use Rattle.std.proofs.Common.{◌≡◌, ◌≢◌, ℕ, ◌≤◌, ◌==◌, Bool, true, false, cond, take, List, [], ◌∷◌, ◌++◌, length, refl, sym, ap, ◌∙◌, subst, arith, inl, inr}
 use Rattle.page_kept.specs.declared.item.Item.{Item}
 use Rattle.page_kept.specs.declared.kept.Kept.{Kept}
 use Rattle.page_kept.specs.Items.{item_of, packets}
@@ -7,7 +7,7 @@ use Rattle.page_kept.specs.Kept.{pages_sent}
 use Rattle.page_kept.specs.Layouts.{layout}
 use Rattle.page_table.specs.Table.{part_in}
 use Rattle.channel_protocol.specs.Paged.{Lays}
-use Rattle.ring_core.specs.Laying.{laid, laid_at}
+use Rattle.ring_core.specs.Laying.{laid}
 use Rattle.ring_core.specs.Pages.{along, last_words}
 use Rattle.ring_core.proofs.Paging.{first_of, none_along, other_of}
 use Rattle.worker_port.specs.Line.{AreFew, words_sent}

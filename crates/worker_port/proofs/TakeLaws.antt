@@ -18,7 +18,6 @@ use Rattle.ring_machine.specs.Endings.{LeavesBy, take_refusal}
 use Rattle.ring_machine.specs.States.{Gets, IsPacket, past_of}
 use Rattle.ring_machine.specs.Steps.{call_by, is_broken, is_busy_at, is_took}
 use Rattle.page_kept.specs.declared.item.Item.{Item}
-use Rattle.page_kept.specs.declared.kept.Kept.{Kept as Pages}
 use Rattle.page_kept.specs.Items.{item_of, packets as packets_of}
 use Rattle.page_kept.specs.Kept.{pages_took}
 use Rattle.page_kept.specs.Layouts.{layout}
@@ -28,10 +27,10 @@ use Rattle.ring_core.proofs.Paging.{first_of, other_of}
 use Rattle.ring_core.specs.declared.told.Told.{Told}
 use Rattle.ring_core.specs.Seen.{Kept, Seen}
 use Rattle.ring_core.specs.Taking.{Takes, TakesIdle, is_honest_take}
-use Rattle.ring_core.specs.Told.{Memory}
+use Rattle.ring_core.specs.Told.{Tale}
 use Rattle.ring_sleep.proofs.Telling.{tells_on, told_of}
 use Rattle.worker_port.specs.Tries.{FoundNone}
-use Rattle.worker_port.specs.Line.{AreFew, Finds, IsLine, Line, LineState, TookOne, found_of, got_as, has_packet, line_of, past_as, words_at}
+use Rattle.worker_port.specs.Line.{Finds, IsLine, Line, LineState, TookOne, found_of, got_as, has_packet, line_of, past_as, words_at}
 use Rattle.worker_port.proofs.ItemLaws.{Grows, found_past, got_more, got_same_as, past_finds, past_got}
 use Rattle.worker_port.proofs.PortLaws.{items_on}
 use Rattle.pkt_desc.specs.Packets.{kind_of, id_of}
@@ -83,9 +82,9 @@ empty_how BadLength m r call none is nothing = let bad : found_stage FoundBroken
 empty_how BadOffset m r call none is nothing = let bad : found_stage FoundBroken ≡ found_stage FoundNothing = ap (λ x. found_stage (found_of (Some x))) (sym is) ∙ ap found_stage nothing in absurd (cc)
 empty_how _ m r call none is nothing = absurd (cc)
 
-pub found_none : {S : Type 0} (told : S → Option Told) (memory : S → Option Memory) (old new : Seen S) (o : Option TakeRefusal) → TakesIdle S told memory old new o → found_of o ≡ FoundNothing → FoundNone told memory old new
-found_none told memory old new None takes nothing = absurd (cc)
-found_none told memory old new (Some r) takes nothing =
+pub found_none : {S : Type 0} (told : S → Option Told) (tale : S → Tale) (old new : Seen S) (o : Option TakeRefusal) → TakesIdle S told tale old new o → found_of o ≡ FoundNothing → FoundNone told tale old new
+found_none told tale old new None takes nothing = absurd (cc)
+found_none told tale old new (Some r) takes nothing =
     let m : EndMachine = new.state.machine in
     let none = untook (is_took m.ended) r (take_refusal m.ended m) takes.answer in
     record { looked = takes.ran; none = empty_how m.ended m r takes.call none (refusal_is (is_took m.ended) r (take_refusal m.ended m) takes.answer) nothing }
@@ -170,9 +169,9 @@ commit_past CommittedQuiet saw past e = refl
 commit_past CommittedRaised saw past e = refl
 commit_past _ saw past e = absurd (cc)
 
-module _ {S : Type 0} {told : S → Option Told} {memory : S → Option Memory} {same : S → S → Type 0} where
+module _ {S : Type 0} {told : S → Option Told} {tale : S → Tale} {same : S → S → Type 0} where
   -- after one that took nothing
-  module _ (old new : Seen S) (o : Option TakeRefusal) (not : found_of o ≡ FoundPacket → ⊥) (takes : Takes S told memory same old new o) (idle : old.state.machine.stage ≡ Idle) where
+  module _ (old new : Seen S) (o : Option TakeRefusal) (not : found_of o ≡ FoundPacket → ⊥) (takes : Takes S told tale same old new o) (idle : old.state.machine.stage ≡ Idle) where
     abbrev m : EndMachine
     m = new.state.machine
 
@@ -185,7 +184,7 @@ module _ {S : Type 0} {told : S → Option Told} {memory : S → Option Memory} 
     some : o ≡ Some r
     some = refusal.1
 
-    t : TakesIdle S told memory old new o
+    t : TakesIdle S told tale old new o
     t = takes.idle idle
 
     none : is_took m.ended ≡ false
@@ -233,17 +232,17 @@ module _ {S : Type 0} {told : S → Option Told} {memory : S → Option Memory} 
     refused_pages is = is ∙ other_of (is_took m.ended) (pages_took (layout old.state.pages.count) old.state.pages (newest new.state.got)) old.state.pages none
 
   -- the pages, where a packet was taken
-  pub took_pages_of : (old new : Seen S) (o : Option TakeRefusal) → Takes S told memory same old new o → old.state.machine.stage ≡ Idle → o ≡ None
+  pub took_pages_of : (old new : Seen S) (o : Option TakeRefusal) → Takes S told tale same old new o → old.state.machine.stage ≡ Idle → o ≡ None
       → new.state.pages ≡ cond (is_took new.state.machine.ended) (pages_took (layout old.state.pages.count) old.state.pages (newest new.state.got)) old.state.pages → new.state.pages ≡ pages_took (layout old.state.pages.count) old.state.pages (newest new.state.got)
   took_pages_of old new o takes idle none is =
       is ∙ first_of (is_took new.state.machine.ended) (pages_took (layout old.state.pages.count) old.state.pages (newest new.state.got)) old.state.pages (took_by_answer (is_took new.state.machine.ended) (take_refusal new.state.machine.ended new.state.machine) (sym none ∙ (takes.idle idle).answer))
 
-  pub took_idle : (old new : Seen S) (o : Option TakeRefusal) → Takes S told memory same old new o → old.state.machine.stage ≡ Idle → o ≡ None → new.state.machine.stage ≡ Idle
+  pub took_idle : (old new : Seen S) (o : Option TakeRefusal) → Takes S told tale same old new o → old.state.machine.stage ≡ Idle → o ≡ None → new.state.machine.stage ≡ Idle
   took_idle old new o takes idle none =
       (takes.idle idle).leaves.stage ∙ took_stage new.state.machine.ended (took_by_answer (is_took new.state.machine.ended) (take_refusal new.state.machine.ended new.state.machine) (sym none ∙ (takes.idle idle).answer))
 
   -- after one that took a packet, whose page words were loaded, and whose cells were given back
-  module _ (old mid whole new : Seen S) (o : Option TakeRefusal) (takes : Takes S told memory same old mid o) (gets : Gets mid.state.machine.len old.state.got mid.state.got old.state.past mid.state.past)
+  module _ (old mid whole new : Seen S) (o : Option TakeRefusal) (takes : Takes S told tale same old mid o) (gets : Gets mid.state.machine.len old.state.got mid.state.got old.state.past mid.state.past)
       (w : TakenWhole told same old.state.pages gets.words mid whole) (past : new.state.past ≡ whole.state.past) (kept : Kept whole new) (h : IsLine told old) where
     abbrev tp : TakenPages old.state.pages whole.state.pages gets.words w.words
     tp = w.pages

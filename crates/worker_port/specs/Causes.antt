@@ -7,7 +7,7 @@ use Rattle.ring_machine.specs.declared.machine.Ending.{Ending}
 use Rattle.ring_machine.specs.declared.machine.Ending.TheVariants.{FellAsleep as ArmFellAsleep, FoundWork as ArmFoundWork, NoSignal, Woke}
 use Rattle.ring_machine.specs.Endings.{is_dozed}
 use Rattle.ring_core.specs.declared.told.Told.{Told}
-use Rattle.ring_core.specs.Told.{Memory}
+use Rattle.ring_core.specs.Told.{Tale}
 use Rattle.worker_port.specs.Line.{Line, PolledOnce}
 use Rattle.worker_port.specs.declared.ended.Turn.{Turn}
 use Rattle.worker_port.specs.declared.ended.Turn.TheVariants.{Moved, Idle, Ended as TurnEnded}
@@ -33,17 +33,17 @@ pub record FellAsleep {S : Type 0} (before : List (Event Item)) (e : Line S) : T
   pub past : e.state.past ≡ before
 
 -- the end was asleep, and one exchange of its signal ended so
-pub record Polled {S : Type 0} (told : S → Option Told) (memory : S → Option Memory) (how : Ending) (old new : Line S) : Type 0 where
-  pub once : PolledOnce told memory old new
+pub record Polled {S : Type 0} (told : S → Option Told) (tale : S → Tale) (how : Ending) (old new : Line S) : Type 0 where
+  pub once : PolledOnce told tale old new
   pub ended : new.state.machine.ended ≡ how
   pub asleep : new.state.machine.asleep ≡ is_dozed how
   pub past : new.state.past ≡ old.state.past
 
 -- a turn of an end that is asleep exchanges its signal once, and moves where that was up
-abbrev pub Polls : {S : Type 0} → (S → Option Told) → (S → Option Memory) → Turn → Line S → Line S → Type 0
-Polls told memory Moved old new = Polled told memory Woke old new
-Polls told memory Idle old new = Polled told memory NoSignal old new
-Polls told memory (TurnEnded how) old new = ⊥
+abbrev pub Polls : {S : Type 0} → (S → Option Told) → (S → Tale) → Turn → Line S → Line S → Type 0
+Polls told tale Moved old new = Polled told tale Woke old new
+Polls told tale Idle old new = Polled told tale NoSignal old new
+Polls told tale (TurnEnded how) old new = ⊥
 
 -- a turn that arms after this past moves where its looks found something
 abbrev pub Arms : {S : Type 0} → Turn → List (Event Item) → Line S → Type 0

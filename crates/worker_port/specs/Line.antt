@@ -17,16 +17,18 @@ use Rattle.ring_machine.specs.declared.machine.Ending.{Ending}
 use Rattle.ring_machine.specs.declared.machine.Ending.TheVariants.{FellAsleep, FoundWork, NoSignal, Woke}
 use Rattle.ring_machine.specs.declared.machine.EndMachine.{EndMachine}
 use Rattle.ring_machine.specs.declared.state.EndState.{EndState}
-use Rattle.ring_machine.specs.Endings.{want_of}
+use Rattle.ring_machine.specs.declared.last.Why.{Why}
+use Rattle.ring_machine.specs.Endings.{want_of, why_of}
 use Rattle.ring_core.specs.declared.room.Room.{Room}
 use Rattle.ring_core.specs.Laying.{laid}
 use Rattle.ring_core.specs.Pages.{IsClear, along, first_kept, last_words}
 use Rattle.ring_core.specs.Seen.{Seen}
+use Rattle.ring_end_history.specs.Calls.{Came}
 use Rattle.ring_machine.specs.States.{IsPacket, MayLend, resting, resting_with}
 use Rattle.ring_machine.specs.Steps.{is_busy_at, machine_new, poll_begun}
 use Rattle.io_edge.specs.declared.side.Side.{Side}
 use Rattle.ring_core.specs.declared.told.Told.{Told}
-use Rattle.ring_core.specs.Told.{Memory, MakesSteps}
+use Rattle.ring_core.specs.Told.{MakesSteps, Tale}
 use Rattle.ring_machine.specs.declared.last.Signalled.{Signalled}
 use Rattle.ring_machine.specs.declared.last.SendRefusal.{SendRefusal}
 use Rattle.ring_machine.specs.declared.last.SendRefusal.TheVariants.{Full as SendFull}
@@ -126,6 +128,17 @@ pub record IsLine {S : Type 0} (told : S → Option Told) (e : Seen S) : Type 0 
   pub size : (512 ≤ e.state.machine.cells) × (e.state.machine.cells ≤ 16777216)
   pub pages : HasItems e.state
 
+-- An end came from a new one by whole calls alone: all that it did to the channel's words are their steps, and all that its seat heard since is what these answered
+pub record CameNew {S : Type 0} (tale : S → Tale) (e : Seen S) : Type 0 where
+  pub first : Seen S
+  pub new : first.state ≡ paged_end first.state.pages.count first.state.machine.cells first.state.machine.side
+  pub came : Came tale first e
+
+-- what holds of a worker's end between two calls, and where it came from
+pub record IsPort {S : Type 0} (told : S → Option Told) (tale : S → Tale) (e : Seen S) : Type 0 where
+  pub line : IsLine told e
+  pub came : CameNew tale e
+
 -- the page words that go along with a packet behind a store of these: none in a channel without data pages
 abbrev pub words_sent : Kept → List ℕ → List ℕ → List ℕ
 words_sent k p words = cond (k.count == 0) [] (last_words (pages_sent (layout k.count) (laid k p words) p).sent)
@@ -150,6 +163,11 @@ pub record IsBroken {S : Type 0} (e : Line S) : Type 0 where
   pub stopped : e.state.machine.stage ≡ Stopped
   pub awake : e.state.machine.asleep ≡ false
   pub unmarked : e.state.machine.marked ≡ false
+
+-- and that is why
+pub record BrokeFor {S : Type 0} (why : Why) (e : Line S) : Type 0 where
+  pub broken : IsBroken e
+  pub cause : why ≡ why_of e.state.machine
 
 -- after a send, and after a take
 abbrev pub Tries : {S : Type 0} → Tried → Line S → Type 0
@@ -233,8 +251,8 @@ polled_by true = Woke
 polled_by false = NoSignal
 
 -- its signal was exchanged once
-abbrev pub PolledOnce : {S : Type 0} → (S → Option Told) → (S → Option Memory) → Line S → Line S → Type 0
-PolledOnce told memory old new = MakesSteps told memory (poll_begun old.end.state.machine) [] old.end new.end
+abbrev pub PolledOnce : {S : Type 0} → (S → Option Told) → (S → Tale) → Line S → Line S → Type 0
+PolledOnce told tale old new = MakesSteps told tale (poll_begun old.end.state.machine) [] old.end new.end
 
 -- it is asleep, and waits for this room
 pub record SleepsFor {S : Type 0} (want : Option ℕ) (e : Line S) : Type 0 where

@@ -4,7 +4,7 @@ use Rattle.channel_trace.specs.declared.event.Event.{Event}
 use Rattle.channel_trace.specs.Laws.{AreOfOneRun}
 use Rattle.channel_trace.specs.Runs.{sent_of, got_of}
 use Rattle.page_kept.specs.declared.item.Item.{Item}
-use Rattle.worker_port.specs.Line.{Line, page_places, page_words}
+use Rattle.worker_port.specs.Line.{BrokeFor, Line, page_places, page_words}
 use Rattle.channel_model.specs.WireFormat.{WireFormat}
 use Rattle.channel_model.specs.Amounts.{room_of, besides_of, AsksAtMost, ServesAtMost}
 use Rattle.worker_port.specs.declared.ended.Ended.{Ended}
@@ -71,20 +71,27 @@ abbrev pub has_room : Ended → Bool
 has_room Marked = true
 has_room PeerMarked = true
 has_room (Room packets words left) = false
-has_room Broken = true
+has_room (Broken why) = true
 
 -- it ended since the end is broken
 abbrev pub is_broken : Ended → Bool
 is_broken Marked = false
 is_broken PeerMarked = false
 is_broken (Room packets words left) = false
-is_broken Broken = true
+is_broken (Broken why) = true
 
 -- and so did the turn
 abbrev pub broke : Turn → Bool
 broke Moved = false
 broke Idle = false
 broke (TurnEnded how) = is_broken how
+
+-- a worker that ended since its end is broken says why that is so
+abbrev pub SaysWhy : {S : Type 0} → Ended → Line S → Type 0
+SaysWhy Marked e = Unit {0}
+SaysWhy PeerMarked e = Unit {0}
+SaysWhy (Room packets words left) e = Unit {0}
+SaysWhy (Broken why) e = BrokeFor why e
 
 -- what holds where messages may go back besides the answers, and else not
 abbrev pub OnlyWith : Bool → Type 0 → Type 0
@@ -111,14 +118,14 @@ module _ {A Q R : Type 0} (s : WireFormat Item A Q R) where
   AskLacksFor besides asks Marked past = Unit {0}
   AskLacksFor besides asks PeerMarked past = Unit {0}
   AskLacksFor besides asks (Room packets words left) past = CameOver s.is_message (besides_of besides asks) (room_of besides asks) past
-  AskLacksFor besides asks Broken past = Unit {0}
+  AskLacksFor besides asks (Broken why) past = Unit {0}
 
   -- and one that serves, with room for so many requests, there, or where more was asked of the device than it serves and it doesn't stop behind that
   abbrev pub ServeLacksFor : Bool → ℕ → ℕ → Bool → Ended → List (Event Item) → Type 0
   ServeLacksFor besides most serve stops Marked past = Unit {0}
   ServeLacksFor besides most serve stops PeerMarked past = Unit {0}
   ServeLacksFor besides most serve stops (Room packets words left) past = CameOver s.is_request most (room_of besides most) past ⊎ ((stops ≡ false) × AskedOver is_asked serve past)
-  ServeLacksFor besides most serve stops Broken past = Unit {0}
+  ServeLacksFor besides most serve stops (Broken why) past = Unit {0}
 
   -- Two ends of one run. The one that asks made room for its asks, and the one that serves for as many or more, and each for the messages and what acknowledges
   -- them, where there are messages; it asked no more of the device than the other one serves, unless that one stops. Then neither ended for want of room, or

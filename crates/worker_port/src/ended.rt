@@ -1,5 +1,7 @@
 //! How a worker's turn went, and how the worker ended.
 
+use ring_core::Why;
+
 /// How a worker ended.
 #[derive(Clone, Copy, Debug, PartialEq, Eq)]
 pub enum Ended {
@@ -10,8 +12,8 @@ pub enum Ended {
     /// The next packet to send or to take lacks spare room: so many packets and words are left of the list that it would grow. And so many calls are
     /// left at the seat, 0 without a seat.
     Room { packets: u64, words: u64, left: u32 },
-    /// The end refused what it loaded, and makes no step any more.
-    Broken,
+    /// The end refused what it loaded, and makes no step any more: this is why.
+    Broken { why: Why },
 }
 
 /// How a turn went.

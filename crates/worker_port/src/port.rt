@@ -2,7 +2,7 @@
 ghost use Rattle.std.specs.Prelude.{◌≡◌, ◌≢◌, ◌<◌, ◌≤◌, ◌-◌, ◌+◌, ◌*◌, ◌^◌, ◌++◌, ◌==◌, [], ◌∷◌, ℕ, Bool, List, true, false, not, length, slice_get, is_some, map, Some, IfOk, OnOk, MatchOption, if◌then◌else◌};
 ghost use Rattle.channel_trace.specs.declared.event.Event.TheVariants.{Marked};
 ghost use Rattle.channel_trace.specs.Runs.{got_of, has_marked, sent_of};
-ghost use Rattle.ring_machine.specs.Endings.{want_of};
+ghost use Rattle.ring_machine.specs.Endings.{want_of, why_of};
 ghost use Rattle.ring_machine.specs.declared.machine.Stage.TheVariants.{Idle};
 ghost use Rattle.worker_port.specs.declared.found.Tried.TheVariants.{Sent as SentTry, Full as FullTry, Broken as BrokenTry};
 ghost use Rattle.worker_port.specs.declared.found.Found.TheVariants.{Packet as PacketFind, Nothing as NothingFind, Broken as BrokenFind};
@@ -13,7 +13,7 @@ ghost use Rattle.worker_port.specs.Rooms.{GotInto, KeepsRoom, SentInto};
 ghost use Rattle.page_kept.specs.declared.item.Item.{Item};
 ghost use Rattle.page_kept.specs.Items.{item_of, packets};
 ghost use Rattle.channel_protocol.specs.Paged.{Lays};
-ghost use Rattle.worker_port.specs.Line.{paged_end, page_words, words_at, CanLay, IsLine, line_of, item_sent, past_as, IsBroken, IsReady, Tries, Finds, past_tried, Stays, TookOne, looked, look_of, is_asleep, armed_by, polled_by, PolledOnce, HasTakeRoom, LacksTake};
+ghost use Rattle.worker_port.specs.Line.{paged_end, page_words, words_at, CameNew, CanLay, IsLine, line_of, item_sent, past_as, IsBroken, IsReady, Tries, Finds, past_tried, Stays, TookOne, looked, look_of, is_asleep, armed_by, polled_by, PolledOnce, HasTakeRoom, LacksTake};
 ghost use Rattle.worker_port.specs.Homes.{HasHome, KeepsHome, SendsHome, TakesHome};
 ghost use Rattle.page_home_laws.specs.Home.{LendsItsOwn};
 ghost use Rattle.page_kept.specs.Layouts.{layout};
@@ -26,7 +26,7 @@ use crate::carry::{lay_all, load_all};
 use crate::found::{Found, Tried, found_by, has_packet, tried_by};
 use crate::room::{places_of_pages, words_of_pages};
 use channel_protocol::Protocol;
-use ring_core::{Armed, End, Room};
+use ring_core::{Armed, End, Room, Why};
 use ring_sleep::{Parks, sleep};
 use std::alloc::AllocError;
 use std::marker::{Model, PhantomData};
@@ -52,13 +52,13 @@ pub struct Port<T: Protocol, S: Parks> {
 }
 
 impl<T: Protocol, S: Parks> Model for Port<T, S> {
-    ghost use Rattle.worker_port.specs.Line.{IsLine, Line, line_of};
+    ghost use Rattle.worker_port.specs.Line.{IsPort, Line, line_of};
 
     ghost Value = { Line S };
 
     ghost view = { λ p. line_of T.said p.end };
 
-    ghost invariant = { λ p. IsLine S.told p.end };
+    ghost invariant = { λ p. IsPort S.told S.tale p.end };
 }
 
 impl<T: Protocol, S: Parks + Drop> Port<T, S> {
@@ -159,6 +159,17 @@ impl<T: Protocol, S: Parks + Drop> Port<T, S> {
         !self.end.is_ready()
     }
 
+    /// Why it is broken: the value that it refused.
+    pub fn why(&self) -> Why
+        requires { IsBroken self.now }
+        ensures { result ≡ why_of self.now.state.machine }
+    {
+        match self.end.broken() {
+            Some(why) => why,
+            None => unreachable!(),
+        }
+    }
+
     // The cells of each ring.
     fn cells(&self) -> u32
         ensures value { result ≡ self.now.state.machine.cells }
@@ -178,6 +189,7 @@ impl<T: Protocol, S: Parks + Drop> Port<T, S> {
     pub fn lends_what_is_closed(&self)
         ensures { (is_open : ℕ → Bool) (p : List ℕ) → HasHome is_open self.now.end.state → (kind_of p == 11) ≡ false → is_open (id_of p) ≡ false → LendsItsOwn (layout self.now.end.state.pages.count) self.now.end.state.machine.side p → MayLend self.now.end.state p }
     {
+        // For the proof: what a value keeps is known where the value is read.
         let _ = &self.end;
     }
 
@@ -192,6 +204,14 @@ impl<T: Protocol, S: Parks + Drop> Port<T, S> {
         ensures told { (u : Told) → S.told self.now.seat ≡ Some u → u.state ≡ self.now.end.state }
     {
         self.end.items_fit();
+    }
+
+    /// A law, and the call does nothing: whatever its peer wrote, the end came from a new one by whole calls alone, and knows of the channel what their steps answered.
+    pub fn comes_by_calls(&self)
+        ensures { CameNew S.tale self.now.end }
+    {
+        // For the proof: what a value keeps is known where the value is read.
+        let _ = &self.end;
     }
 
     /// Whether it sleeps until its signal is up.
@@ -270,7 +290,7 @@ impl<T: Protocol, S: Parks + Drop> Port<T, S> {
         ensures unmarked { has_marked self.old.state.past ≡ false }
         ensures unsent { result ≢ SentTry → self.new.spare_sent ≡ self.old.spare_sent }
         ensures found { result ≡ FullTry → (self.new.state.machine.room ≤ length packet.now + 1) × (self.new.state.machine.words ≡ length packet.now) }
-        ensures tried { TriedWith S.told S.memory packet.now words.now self.old.end self.new.end }
+        ensures tried { TriedWith S.told S.tale packet.now words.now self.old.end self.new.end }
         ensures full { result ≡ FullTry → self.new.end.state.machine.ended ≡ EndedFull }
         ensures home { SendsHome result packet.now self.old.end.state self.new.end.state }
         ensures into { SentInto (length packet.now) self.old self.new }
@@ -293,7 +313,7 @@ impl<T: Protocol, S: Parks + Drop> Port<T, S> {
         ensures stays { Stays S.channel S.told self.old self.new }
         ensures sent { self.new.spare_sent ≡ self.old.spare_sent }
         ensures none { result ≢ PacketFind → (self.new.state.got ≡ self.old.state.got) × (self.new.spare_got ≡ self.old.spare_got) }
-        ensures looked { result ≡ NothingFind → FoundNone S.told S.memory self.old.end self.new.end }
+        ensures looked { result ≡ NothingFind → FoundNone S.told S.tale self.old.end self.new.end }
         ensures home { TakesHome result self.old self.new }
         ensures into { GotInto self.old self.new }
     {
@@ -311,7 +331,7 @@ impl<T: Protocol, S: Parks + Drop> Port<T, S> {
 
     /// Arms the signal, and looks once more for packets, for the room in bytes that is wanted, and for the peer's mark. Where it finds none of these the end
     /// is asleep.
-    #[tactic(auto, using(crate::proofs::PortLaws::arm_ended, crate::proofs::PortLaws::quiet_items))]
+    #[tactic(auto, using(crate::proofs::PortLaws::arm_ended))]
     pub fn arm(&mut self, want: Option<u32>) -> ArmResult
         requires ready { IsReady self.old }
         requires want { IsNeed want }
@@ -320,7 +340,7 @@ impl<T: Protocol, S: Parks + Drop> Port<T, S> {
         ensures idle { self.new.state.machine.stage ≡ Idle }
         ensures ended { self.new.state.machine.ended ≡ armed_by result }
         ensures found { self.new.end.state.machine.ended ≡ armed_by result }
-        ensures once { ArmedOnce S.told S.memory want self.old.end self.new.end }
+        ensures once { ArmedOnce S.told S.tale want self.old.end self.new.end }
         ensures unmarked { self.new.state.machine.marked ≡ false }
         ensures want { self.new.state.machine.asleep ≡ true → self.new.state.machine.want ≡ want_of want }
         ensures home { KeepsHome self.old.end.state self.new.end.state }
@@ -332,14 +352,14 @@ impl<T: Protocol, S: Parks + Drop> Port<T, S> {
     }
 
     /// Takes the signal of an end that is asleep, if it is up: then the end is awake.
-    #[tactic(auto, using(crate::proofs::PortLaws::poll_ended, crate::proofs::PortLaws::quiet_items))]
+    #[tactic(auto, using(crate::proofs::PortLaws::poll_ended))]
     pub fn poll(&mut self) -> bool
         requires asleep { self.old.state.machine.asleep ≡ true }
         requires unmarked { self.old.state.machine.marked ≡ false }
         ensures asleep { self.new.state.machine.asleep ≡ not result }
         ensures idle { self.new.state.machine.stage ≡ Idle }
         ensures ended { self.new.state.machine.ended ≡ polled_by result }
-        ensures polled { PolledOnce S.told S.memory self.old self.new }
+        ensures polled { PolledOnce S.told S.tale self.old self.new }
         ensures want { self.new.state.machine.asleep ≡ true → self.new.state.machine.want ≡ self.old.state.machine.want }
         ensures unmarked { self.new.state.machine.marked ≡ false }
         ensures past { self.new.state.past ≡ self.old.state.past }
@@ -364,13 +384,12 @@ impl<T: Protocol, S: Parks + Drop> Port<T, S> {
     }
 
     /// Says that this end sends nothing more.
-    #[tactic(auto, using(crate::proofs::PortLaws::quiet_items))]
     pub fn mark(&mut self)
         requires ready { IsReady self.old }
         ensures past { self.new.state.past ≡ Marked ∷ self.old.state.past }
         ensures marked { self.new.state.machine.marked ≡ true }
         ensures awake { self.new.state.machine.asleep ≡ false }
-        ensures once { MarkedOnce S.told S.memory self.old.end self.new.end }
+        ensures once { MarkedOnce S.told S.tale self.old.end self.new.end }
         ensures first { has_marked self.old.state.past ≡ false }
         ensures found { (self.new.state.machine.room ≡ self.old.state.machine.room) × (self.new.state.machine.words ≡ self.old.state.machine.words) }
         ensures got { got_of self.new.state.past ≡ self.new.state.got }
@@ -386,6 +405,7 @@ impl<T: Protocol, S: Parks + Drop> Port<T, S> {
         ensures end { result ≡ self.end }
         ensures line { self ≡ line_of T.said result }
         ensures stands { IsLine S.told result }
+        ensures came { CameNew S.tale result }
         ensures past { self.state.past ≡ past_as T.said result.state }
     {
         let Port { end, of: _ } = self;

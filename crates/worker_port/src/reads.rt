@@ -10,6 +10,7 @@ pub fn id_read<T: Protocol>(protocol: &T, packet: &[u64], words: &[u64]) -> u64
     requires { IsPacket packet.now }
     ensures { result ≡ (T.format protocol.now).id_of (T.said (item_of packet.now words.now)) }
 {
+    // For the proof: the numbers of a slice that is read are known to fit their type.
     let _read = words;
     protocol.id(packet)
 }
@@ -19,6 +20,7 @@ pub fn is_waiting_read<T: Protocol>(protocol: &T, packet: &[u64], words: &[u64])
     requires { IsPacket packet.now }
     ensures { result ≡ ((T.format protocol.now).is_request (T.said (item_of packet.now words.now)) && (T.format protocol.now).waits (T.said (item_of packet.now words.now))) }
 {
+    // For the proof: the numbers of a slice that is read are known to fit their type.
     let _read = words;
     protocol.is_waiting(packet)
 }
@@ -28,6 +30,7 @@ pub fn is_ack_read<T: Protocol>(protocol: &T, packet: &[u64], words: &[u64]) -> 
     requires { IsPacket packet.now }
     ensures { result ≡ (T.format protocol.now).is_ack (T.said (item_of packet.now words.now)) }
 {
+    // For the proof: the numbers of a slice that is read are known to fit their type.
     let _read = words;
     protocol.is_ack(packet)
 }
@@ -37,6 +40,7 @@ pub fn is_answer_read<T: Protocol>(protocol: &T, packet: &[u64], words: &[u64]) 
     requires { IsPacket packet.now }
     ensures { result ≡ (T.format protocol.now).is_answer (T.said (item_of packet.now words.now)) }
 {
+    // For the proof: the numbers of a slice that is read are known to fit their type.
     let _read = words;
     protocol.is_answer(packet)
 }
@@ -46,6 +50,7 @@ pub fn is_message_read<T: Protocol>(protocol: &T, packet: &[u64], words: &[u64])
     requires { IsPacket packet.now }
     ensures { result ≡ (T.format protocol.now).is_message (T.said (item_of packet.now words.now)) }
 {
+    // For the proof: the numbers of a slice that is read are known to fit their type.
     let _read = words;
     protocol.is_message(packet)
 }

@@ -14,7 +14,7 @@ use Rattle.channel_trace.proofs.Pasts.{drained_seen, follows_unmarked}
 use Rattle.ring_core.specs.declared.room.Room.{Room as SpareRoom}
 use Rattle.ring_core.specs.declared.told.Told.{Told}
 use Rattle.ring_core.specs.Seen.{Seen}
-use Rattle.ring_core.specs.Told.{Memory}
+use Rattle.ring_core.specs.Told.{Tale}
 use Rattle.txn_table.specs.Open.{request_of}
 use Rattle.channel_model.specs.WireFormat.{WireFormat, Keeps}
 use Rattle.channel_model.specs.Acks.{acks_for}
@@ -34,7 +34,7 @@ use Rattle.worker_port.specs.declared.ended.Ended.{Ended}
 use Rattle.worker_port.specs.declared.ended.Ended.TheVariants.{Marked as EndMarked, PeerMarked as EndPeerMarked, Room as EndRoom, Broken as EndBroken}
 use Rattle.worker_port.specs.Owed.{IsNeed, MetFull}
 use Rattle.worker_port.specs.Tries.{FoundFull, FoundNone, FoundNothing, MarkedOnce}
-use Rattle.worker_port.specs.Rooms.{AreShort, AskedWithin, CameOver, HasReservedSent, KeepsRoom}
+use Rattle.worker_port.specs.Rooms.{AreShort, AskedWithin, CameOver, HasReservedSent, KeepsRoom, SaysWhy}
 use Rattle.worker_port.proofs.RoomLaws.{asks_over, ask_left, ack_left, takes_over}
 use Rattle.worker_port.specs.declared.ended.Turn.TheVariants.{Ended as TurnEnded}
 use Rattle.worker_requester.specs.Causes.{AskCause}
@@ -588,9 +588,9 @@ module _ {T S A Q R : Type 0} (s : WireFormat Item A Q R) (asks : List A) (w : A
       }
 
   -- and it was tried once
-  pub ack_full : (told : S → Option Told) (memory : S → Option Memory) (end' : Line S) (m : Item) → slice_get w.end.state.got w.acked ≡ Some m → s.is_message m ≡ true → end'.state.past ≡ w.end.state.past → FoundFull told memory (s.ack m).packet w.end.end end'.end → IsAsking s asks w
-      → AckFull told memory s w.end.end end'
-  ack_full told memory end' m at is same full h =
+  pub ack_full : (told : S → Option Told) (tale : S → Tale) (end' : Line S) (m : Item) → slice_get w.end.state.got w.acked ≡ Some m → s.is_message m ≡ true → end'.state.past ≡ w.end.state.past → FoundFull told tale (s.ack m).packet w.end.end end'.end → IsAsking s asks w
+      → AckFull told tale s w.end.end end'
+  ack_full told tale end' m at is same full h =
       let past : List (Event Item) = w.end.state.past in
       let rest : List Item = drop w.acked w.end.state.got in
       let more : List Item = drop (w.acked + 1) w.end.state.got in
@@ -602,9 +602,9 @@ module _ {T S A Q R : Type 0} (s : WireFormat Item A Q R) (asks : List A) (w : A
         full = full;
       }
 
-module _ {S A Q R : Type 0} (told : S → Option Told) (memory : S → Option Memory) (s : WireFormat Item A Q R) (e e' : Line S) where
+module _ {S A Q R : Type 0} (told : S → Option Told) (tale : S → Tale) (s : WireFormat Item A Q R) (e e' : Line S) where
   -- it marked itself behind that
-  pub tried_marked : (before looked : Seen S) → e'.state.past ≡ Marked ∷ e.state.past → FoundNone told memory before looked → AckFull told memory s looked e → MarkedOnce told memory e.end e'.end → LeavesTried told memory s before e'
+  pub tried_marked : (before looked : Seen S) → e'.state.past ≡ Marked ∷ e.state.past → FoundNone told tale before looked → AckFull told tale s looked e → MarkedOnce told tale e.end e'.end → LeavesTried told tale s before e'
   tried_marked before looked past none full once = record {
     left = full.packet ∷ full.rest;
     acks = subst (λ (l : List (Event Item)). acks_for s (got_of l) ≡ filter s.is_ack (sent_of l) ++ full.packet ∷ full.rest) (sym past) full.acks;
@@ -612,20 +612,20 @@ module _ {S A Q R : Type 0} (told : S → Option Told) (memory : S → Option Me
   }
 
   -- or with nothing left
-  pub all_marked : (before : Seen S) → e'.state.past ≡ Marked ∷ e.state.past → acks_for s (got_of e.state.past) ≡ filter s.is_ack (sent_of e.state.past) → LeavesTried told memory s before e'
+  pub all_marked : (before : Seen S) → e'.state.past ≡ Marked ∷ e.state.past → acks_for s (got_of e.state.past) ≡ filter s.is_ack (sent_of e.state.past) → LeavesTried told tale s before e'
   all_marked before past all = record {
     left = [];
     acks = subst (λ (l : List (Event Item)). acks_for s (got_of l) ≡ filter s.is_ack (sent_of l) ++ []) (sym past) (all ∙ sym (append-nil (filter s.is_ack (sent_of e.state.past))));
     tried = tt;
   }
 
-module _ {T S A Q R : Type 0} (told : S → Option Told) (memory : S → Option Memory) (s : WireFormat Item A Q R) (asks : List A) (w : Asking T S R) where
+module _ {T S A Q R : Type 0} (told : S → Option Told) (tale : S → Tale) (s : WireFormat Item A Q R) (asks : List A) (w : Asking T S R) where
   -- a worker that rests tried what waits for room
-  pub rests_tried : (end' : Line S) (hold : Blocked) (before looked : Seen S) → end'.state.got ≡ w.end.state.got → FoundNone told memory before looked → HoldTried told memory s asks hold looked w → FoundNothing told memory (want_by hold) w.end.end end'.end
-      → RestsTried told memory s asks hold before (record w { end = end'; hold = hold })
-  rests_tried end' Done before looked got none h rested = record { looked = looked; none = none; rested = subst (λ x. FoundNothing told memory None x end'.end) h rested }
-  rests_tried end' Place before looked got none h rested = record { looked = looked; none = none; rested = subst (λ x. FoundNothing told memory None x end'.end) h rested }
-  rests_tried end' Answer before looked got none h rested = record { looked = looked; none = none; rested = subst (λ x. FoundNothing told memory None x end'.end) h rested }
+  pub rests_tried : (end' : Line S) (hold : Blocked) (before looked : Seen S) → end'.state.got ≡ w.end.state.got → FoundNone told tale before looked → HoldTried told tale s asks hold looked w → FoundNothing told tale (want_by hold) w.end.end end'.end
+      → RestsTried told tale s asks hold before (record w { end = end'; hold = hold })
+  rests_tried end' Done before looked got none h rested = record { looked = looked; none = none; rested = subst (λ x. FoundNothing told tale None x end'.end) h rested }
+  rests_tried end' Place before looked got none h rested = record { looked = looked; none = none; rested = subst (λ x. FoundNothing told tale None x end'.end) h rested }
+  rests_tried end' Answer before looked got none h rested = record { looked = looked; none = none; rested = subst (λ x. FoundNothing told tale None x end'.end) h rested }
   rests_tried end' (Ack need) before looked got none h rested =
       (h.0, ap (λ l. slice_get l w.acked) got ∙ h.1, record { looked = looked; tried = w.end.end; none = none; full = h.2; rested = rested })
   rests_tried end' (Room need) before looked got none h rested = (h.0, h.1, record { looked = looked; tried = w.end.end; none = none; full = h.2; rested = rested })
@@ -648,18 +648,25 @@ module _ {T S A Q R : Type 0} (s : WireFormat Item A Q R) (besides : Bool) (asks
   ends_acked EndMarked h = tt
   ends_acked EndPeerMarked h = h.1
   ends_acked (EndRoom packets words left) h = tt
-  ends_acked EndBroken h = tt
+  ends_acked (EndBroken why) h = tt
+
+  -- a worker that ended since its end is broken says why
+  pub says_why : (how : Ended) → AskLacks s besides asks how w → SaysWhy how w.end
+  says_why EndMarked h = tt
+  says_why EndPeerMarked h = tt
+  says_why (EndRoom packets words left) h = tt
+  says_why (EndBroken why) h = h.0
 
 pub ask_trans : {T S R C : Type 0} (channel : S → C) (told_by : S → Option Told) (u v w : Asking T S R) → AsksOn channel told_by u v → AsksOn channel told_by v w → AsksOn channel told_by u w
 ask_trans channel told_by u v w a b = record { tells = b.tells ∙ a.tells; protocol = b.protocol ∙ a.protocol; relid = b.relid ∙ a.relid; starts = b.starts ∙ a.starts; window = b.window ∙ a.window; end = record { seat = b.end.seat ∙ a.end.seat; side = b.end.side ∙ a.end.side; pages = b.end.pages ∙ a.end.pages } }
 
 -- a worker that ended in a turn had tried what it let go
-pub ever_tried : {T S A Q R C : Type 0} (channel : S → C) (told : S → Option Told) (memory : S → Option Memory) (sp : T → WireFormat Item A Q R) (how : Ended) (u v w : Asking T S R) → AsksOn channel told u v → AsksOn channel told v w
-    → AskCause told memory (TurnEnded how) v.end w.end → (v.end.state.machine.asleep ≡ false → EndTried told memory (sp w.protocol) how v.end.end w.end) → EverTried channel told memory (sp u.protocol) how u.end.end w.end
-ever_tried channel told memory sp how u v w a b cause tried = record {
+pub ever_tried : {T S A Q R C : Type 0} (channel : S → C) (told : S → Option Told) (tale : S → Tale) (sp : T → WireFormat Item A Q R) (how : Ended) (u v w : Asking T S R) → AsksOn channel told u v → AsksOn channel told v w
+    → AskCause told tale (TurnEnded how) v.end w.end → (v.end.state.machine.asleep ≡ false → EndTried told tale (sp w.protocol) how v.end.end w.end) → EverTried channel told tale (sp u.protocol) how u.end.end w.end
+ever_tried channel told tale sp how u v w a b cause tried = record {
   before = v.end.end;
   same = a.end;
-  tried = subst (λ t. EndTried told memory (sp t) how v.end.end w.end) (b.protocol ∙ a.protocol) (tried (awake v.end.state.machine.asleep refl));
+  tried = subst (λ t. EndTried told tale (sp t) how v.end.end w.end) (b.protocol ∙ a.protocol) (tried (awake v.end.state.machine.asleep refl));
 }
   where
     awake : (b : Bool) → v.end.state.machine.asleep ≡ b → v.end.state.machine.asleep ≡ false

@@ -1,16 +1,15 @@
 -- What the asking worker's steps make of the pages under the ids of its requests.
 use Rattle.page_kept.specs.declared.item.Item.{Item}
-use Rattle.page_kept.specs.declared.kept.Kept.{Kept}
 use Rattle.page_kept.specs.Counts.{count, is_ask, is_done}
 use Rattle.page_kept.specs.Items.{item_of, packets}
-use Rattle.page_kept.specs.Layouts.{Loan, layout, loan_in}
+use Rattle.page_kept.specs.Layouts.{layout, loan_in}
 use Rattle.page_home_laws.specs.Home.{LendsItsOwn, closed as closed_id, first_of as first_page_of, opened}
 use Rattle.pkt_desc.specs.Packets.{id_of, kind_of}
 use Rattle.pkt_desc.specs.Lending.{lent_of}
 use Rattle.pkt_desc.specs.declared.loan.Lent.{Lent as LentBytes}
 use Rattle.io_edge.specs.declared.side.Side.{Side}
 use Rattle.io_edge.specs.declared.side.Side.TheVariants.{Guest}
-use Rattle.std.proofs.Common.{◌≡◌, ◌≢◌, ℕ, ◌+◌, ◌<◌, ◌≤◌, List, [], ◌∷◌, ◌++◌, length, drop, map, refl, sym, ap, ◌∙◌, subst, arith, Option, Some, None, Bool, true, false, cond, is_some}
+use Rattle.std.proofs.Common.{◌≡◌, ◌≢◌, ℕ, ◌+◌, ◌<◌, ◌≤◌, List, [], ◌∷◌, length, drop, map, refl, sym, ap, ◌∙◌, subst, arith, Some, None, Bool, true, false, cond, is_some}
 use Rattle.std.specs.Prelude.{◌==◌, slice_get}
 use Rattle.channel_trace.specs.declared.event.Event.{Event}
 use Rattle.channel_trace.specs.declared.event.Event.TheVariants.{Sent, Got}

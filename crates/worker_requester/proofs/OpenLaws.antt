@@ -1,12 +1,11 @@
 -- Which ids have an open request, by what an end that asks did.
 use Rattle.page_kept.specs.declared.item.Item.{Item}
-use Rattle.std.proofs.Common.{◌≡◌, ℕ, ◌+◌, List, [], ◌∷◌, ◌++◌, length, drop, refl, sym, ap, ◌∙◌, subst, arith, Option, Some, None, Bool, true, false, cond, is_some}
+use Rattle.std.proofs.Common.{◌≡◌, ℕ, List, [], ◌∷◌, ◌++◌, length, drop, refl, sym, ap, ◌∙◌, Option, Some, None, Bool, true, false, cond, is_some}
 use Rattle.std.specs.Prelude.{◌==◌, if◌then◌else◌}
 use Rattle.std.proofs.lemmas.List.{append-nil}
-use Rattle.std.proofs.lemmas.Bool.Decides.{nat_tests}
 use Rattle.channel_trace.specs.declared.event.Event.{Event}
 use Rattle.channel_trace.specs.declared.event.Event.TheVariants.{Sent, Got}
-use Rattle.channel_model.specs.WireFormat.{WireFormat, Keeps}
+use Rattle.channel_model.specs.WireFormat.{WireFormat}
 use Rattle.channel_model.specs.Asker.{opened as opened_by, under, without, open_of, requests_of}
 use Rattle.channel_model.specs.Workers.{ask_of, Apart}
 use Rattle.channel_model.proofs.Opens.{by_test}

@@ -9,7 +9,7 @@ use Rattle.io_edge.specs.declared.side.Side.TheVariants.{Guest}
 use Rattle.ring_machine.specs.declared.state.EndState.{EndState}
 use Rattle.ring_core.specs.declared.told.Told.{Told}
 use Rattle.ring_core.specs.Seen.{Seen}
-use Rattle.ring_core.specs.Told.{Memory}
+use Rattle.ring_core.specs.Told.{Tale}
 use Rattle.txn_table.specs.Open.{HasNone, request_of}
 use Rattle.channel_model.specs.WireFormat.{WireFormat, listed}
 use Rattle.channel_model.specs.Acks.{acks_for}
@@ -17,7 +17,7 @@ use Rattle.channel_model.specs.Amounts.{room_of, SendsKinds}
 use Rattle.channel_model.specs.Asker.{requests_of, open_of, under}
 use Rattle.channel_model.specs.Channel.{RequestPlan, asks_of, AskerEnds, AskerBreaks}
 use Rattle.channel_model.specs.Workers.{AskerKept, AcksKept}
-use Rattle.worker_port.specs.Line.{IsBroken, IsReady, IsSameEnd, Line, SleepsFor, LacksTake}
+use Rattle.worker_port.specs.Line.{BrokeFor, IsBroken, IsReady, IsSameEnd, Line, SleepsFor, LacksTake}
 use Rattle.worker_port.specs.Owed.{HasSendRoom, LacksSendOf, MetFull}
 use Rattle.worker_port.specs.Tries.{FoundFull, LookedRested, LookedTriedRested, TriedLast}
 use Rattle.worker_port.specs.Rooms.{AskedWithin, AskLacksFor, KeepsRoom}
@@ -178,7 +178,7 @@ abbrev pub AsksBy : {A Q R : Type 0} → WireFormat Item A Q R → Ended → Lis
 AsksBy s Marked asks past told = AsksAll s asks past told × (has_marked past ≡ true) × (has_seen past ≡ false)
 AsksBy s PeerMarked asks past told = AsksAll s asks past told × (has_marked past ≡ true) × (has_seen past ≡ true)
 AsksBy s (Room packets words left) asks past told = AskerBreaks s asks past told
-AsksBy s EndedBroken asks past told = AskerBreaks s asks past told
+AsksBy s (EndedBroken why) asks past told = AskerBreaks s asks past told
 
 -- what is to be sent next lacks room: what acknowledges a message, or the next ask
 abbrev pub LacksNext : {T S A Q R : Type 0} → WireFormat Item A Q R → List A → ℕ → ℕ → Asking T S R → Type 0
@@ -202,8 +202,8 @@ AskLacks s besides asks (Room packets words left) w =
     (left ≡ 0) × AskerLacks s asks packets words w × KeepsRoom (room_of besides (length asks)) w.end
     × AskLacksFor s besides (length asks) (Room packets words left) w.end.state.past × AskedWithin s (length asks) w.end.state.past × IsPaced s w.starts asks w.end.state.past
     × AskedFrom s (length w.table) asks w.end.state.past
-AskLacks s besides asks EndedBroken w =
-    IsBroken w.end × AskedWithin s (length asks) w.end.state.past × IsPaced s w.starts asks w.end.state.past × AskedFrom s (length w.table) asks w.end.state.past
+AskLacks s besides asks (EndedBroken why) w =
+    BrokeFor why w.end × AskedWithin s (length asks) w.end.state.past × IsPaced s w.starts asks w.end.state.past × AskedFrom s (length w.table) asks w.end.state.past
 
 -- how a turn ends; one that is idle leaves the end asleep for what it holds, before the other end's mark was seen
 abbrev pub AskTurns : {T S A Q R : Type 0} → WireFormat Item A Q R → Bool → List A → Turn → Asking T S R → Type 0
@@ -222,77 +222,77 @@ abbrev pub EndsAcked : {S A Q R : Type 0} → WireFormat Item A Q R → Ended �
 EndsAcked s Marked e = Unit {0}
 EndsAcked s PeerMarked e = LeavesAcks s e
 EndsAcked s (Room packets words left) e = Unit {0}
-EndsAcked s EndedBroken e = Unit {0}
+EndsAcked s (EndedBroken why) e = Unit {0}
 
 -- none of these packets; or from an earlier end on the end did this alone: it looked for a packet and found none, tried the first of these and found too little
 -- room for it, and marked itself
-abbrev pub AreTried : {S : Type 0} → (S → Option Told) → (S → Option Memory) → List Item → Seen S → Seen S → Type 0
-AreTried told memory [] old new = Unit {0}
-AreTried told memory (p ∷ ps) old new = TriedLast told memory p.packet old new
+abbrev pub AreTried : {S : Type 0} → (S → Option Told) → (S → Tale) → List Item → Seen S → Seen S → Type 0
+AreTried told tale [] old new = Unit {0}
+AreTried told tale (p ∷ ps) old new = TriedLast told tale p.packet old new
 
 -- what is left of what acknowledges the messages that came, in order, was tried since an earlier end
-pub record LeavesTried {S A Q R : Type 0} (told : S → Option Told) (memory : S → Option Memory) (s : WireFormat Item A Q R) (old : Seen S) (e : Line S) : Type 0 where
+pub record LeavesTried {S A Q R : Type 0} (told : S → Option Told) (tale : S → Tale) (s : WireFormat Item A Q R) (old : Seen S) (e : Line S) : Type 0 where
   pub left : List Item
   pub acks : acks_for s (got_of e.state.past) ≡ filter s.is_ack (sent_of e.state.past) ++ left
-  pub tried : AreTried told memory left old e.end
+  pub tried : AreTried told tale left old e.end
 
 -- from an earlier end on the worker did this alone, and rests: it looked for a packet and found none; where the next packet waits for room it tried this packet, and
 -- found too little; and it armed for the room that it needs, and found nothing
-abbrev pub RestsTried : {T S A Q R : Type 0} → (S → Option Told) → (S → Option Memory) → WireFormat Item A Q R → List A → Blocked → Seen S → Asking T S R → Type 0
-RestsTried told memory s asks BlockedDone old w = LookedRested told memory None old w.end.end
-RestsTried told memory s asks BlockedPlace old w = LookedRested told memory None old w.end.end
-RestsTried told memory s asks BlockedAnswer old w = LookedRested told memory None old w.end.end
-RestsTried told memory s asks (BlockedAck need) old w =
-    (m : Item) × (slice_get w.end.state.got w.acked ≡ Some m) × LookedTriedRested told memory (s.ack m).packet (Some need) old w.end.end
-RestsTried {A = A} told memory s asks (BlockedRoom need) old w =
-    (a : A) × (slice_get asks w.next ≡ Some a) × LookedTriedRested told memory (s.encode (id_in w.waiting) a).packet (Some need) old w.end.end
+abbrev pub RestsTried : {T S A Q R : Type 0} → (S → Option Told) → (S → Tale) → WireFormat Item A Q R → List A → Blocked → Seen S → Asking T S R → Type 0
+RestsTried told tale s asks BlockedDone old w = LookedRested told tale None old w.end.end
+RestsTried told tale s asks BlockedPlace old w = LookedRested told tale None old w.end.end
+RestsTried told tale s asks BlockedAnswer old w = LookedRested told tale None old w.end.end
+RestsTried told tale s asks (BlockedAck need) old w =
+    (m : Item) × (slice_get w.end.state.got w.acked ≡ Some m) × LookedTriedRested told tale (s.ack m).packet (Some need) old w.end.end
+RestsTried {A = A} told tale s asks (BlockedRoom need) old w =
+    (a : A) × (slice_get asks w.next ≡ Some a) × LookedTriedRested told tale (s.encode (id_in w.waiting) a).packet (Some need) old w.end.end
 
 -- of a worker that ended so, from an earlier end on: after the other end's mark what is left to acknowledge was tried
-abbrev pub EndTried : {S A Q R : Type 0} → (S → Option Told) → (S → Option Memory) → WireFormat Item A Q R → Ended → Seen S → Line S → Type 0
-EndTried told memory s Marked old e = Unit {0}
-EndTried told memory s PeerMarked old e = LeavesTried told memory s old e
-EndTried told memory s (Room packets words left) old e = Unit {0}
-EndTried told memory s EndedBroken old e = Unit {0}
+abbrev pub EndTried : {S A Q R : Type 0} → (S → Option Told) → (S → Tale) → WireFormat Item A Q R → Ended → Seen S → Line S → Type 0
+EndTried told tale s Marked old e = Unit {0}
+EndTried told tale s PeerMarked old e = LeavesTried told tale s old e
+EndTried told tale s (Room packets words left) old e = Unit {0}
+EndTried told tale s (EndedBroken why) old e = Unit {0}
 
 -- and that from some moment on of the end that it had first
-pub record EverTried {S C A Q R : Type 0} (channel : S → C) (told : S → Option Told) (memory : S → Option Memory) (s : WireFormat Item A Q R) (how : Ended) (first : Seen S) (e : Line S) : Type 0 where
+pub record EverTried {S C A Q R : Type 0} (channel : S → C) (told : S → Option Told) (tale : S → Tale) (s : WireFormat Item A Q R) (how : Ended) (first : Seen S) (e : Line S) : Type 0 where
   pub before : Seen S
   pub same : IsSameEnd channel first before
-  pub tried : EndTried told memory s how before e
+  pub tried : EndTried told tale s how before e
 
 -- of a turn of an end that was awake, from this end on: where it rests, the packet that waits for room was tried in it; and where it ended after the other end's mark,
 -- what is left to acknowledge was
-abbrev pub TurnTried : {T S A Q R : Type 0} → (S → Option Told) → (S → Option Memory) → WireFormat Item A Q R → List A → Turn → Seen S → Asking T S R → Type 0
-TurnTried told memory s asks Moved old w = Unit {0}
-TurnTried told memory s asks Idle old w = RestsTried told memory s asks w.hold old w
-TurnTried told memory s asks (TurnEnded how) old w = EndTried told memory s how old w.end
+abbrev pub TurnTried : {T S A Q R : Type 0} → (S → Option Told) → (S → Tale) → WireFormat Item A Q R → List A → Turn → Seen S → Asking T S R → Type 0
+TurnTried told tale s asks Moved old w = Unit {0}
+TurnTried told tale s asks Idle old w = RestsTried told tale s asks w.hold old w
+TurnTried told tale s asks (TurnEnded how) old w = EndTried told tale s how old w.end
 
 -- the packet that waits for room was tried once, and found too little; where none waits the end made no call
-abbrev pub HoldTried : {T S A Q R : Type 0} → (S → Option Told) → (S → Option Memory) → WireFormat Item A Q R → List A → Blocked → Seen S → Asking T S R → Type 0
-HoldTried told memory s asks BlockedDone old w = w.end.end ≡ old
-HoldTried told memory s asks BlockedPlace old w = w.end.end ≡ old
-HoldTried told memory s asks BlockedAnswer old w = w.end.end ≡ old
-HoldTried told memory s asks (BlockedAck need) old w = (m : Item) × (slice_get w.end.state.got w.acked ≡ Some m) × FoundFull told memory (s.ack m).packet old w.end.end
-HoldTried {A = A} told memory s asks (BlockedRoom need) old w = (a : A) × (slice_get asks w.next ≡ Some a) × FoundFull told memory (s.encode (id_in w.waiting) a).packet old w.end.end
+abbrev pub HoldTried : {T S A Q R : Type 0} → (S → Option Told) → (S → Tale) → WireFormat Item A Q R → List A → Blocked → Seen S → Asking T S R → Type 0
+HoldTried told tale s asks BlockedDone old w = w.end.end ≡ old
+HoldTried told tale s asks BlockedPlace old w = w.end.end ≡ old
+HoldTried told tale s asks BlockedAnswer old w = w.end.end ≡ old
+HoldTried told tale s asks (BlockedAck need) old w = (m : Item) × (slice_get w.end.state.got w.acked ≡ Some m) × FoundFull told tale (s.ack m).packet old w.end.end
+HoldTried {A = A} told tale s asks (BlockedRoom need) old w = (a : A) × (slice_get asks w.next ≡ Some a) × FoundFull told tale (s.encode (id_in w.waiting) a).packet old w.end.end
 
-abbrev pub HeldTried : {T S A Q R : Type 0} → (S → Option Told) → (S → Option Memory) → WireFormat Item A Q R → List A → Asked → Seen S → Asking T S R → Type 0
-HeldTried told memory s asks AskedSent old w = Unit {0}
-HeldTried told memory s asks (AskedHeld hold) old w = HoldTried told memory s asks hold old w
-HeldTried told memory s asks (AskedLacks packets words) old w = Unit {0}
-HeldTried told memory s asks AskedBroken old w = Unit {0}
+abbrev pub HeldTried : {T S A Q R : Type 0} → (S → Option Told) → (S → Tale) → WireFormat Item A Q R → List A → Asked → Seen S → Asking T S R → Type 0
+HeldTried told tale s asks AskedSent old w = Unit {0}
+HeldTried told tale s asks (AskedHeld hold) old w = HoldTried told tale s asks hold old w
+HeldTried told tale s asks (AskedLacks packets words) old w = Unit {0}
+HeldTried told tale s asks AskedBroken old w = Unit {0}
 
 -- the first of what is left to acknowledge was tried once, and found too little room
-pub record AckFull {S A Q R : Type 0} (told : S → Option Told) (memory : S → Option Memory) (s : WireFormat Item A Q R) (old : Seen S) (e : Line S) : Type 0 where
+pub record AckFull {S A Q R : Type 0} (told : S → Option Told) (tale : S → Tale) (s : WireFormat Item A Q R) (old : Seen S) (e : Line S) : Type 0 where
   pub packet : Item
   pub rest : List Item
   pub acks : acks_for s (got_of e.state.past) ≡ filter s.is_ack (sent_of e.state.past) ++ packet ∷ rest
-  pub full : FoundFull told memory packet.packet old e.end
+  pub full : FoundFull told tale packet.packet old e.end
 
-abbrev pub AckTried : {S A Q R : Type 0} → (S → Option Told) → (S → Option Memory) → WireFormat Item A Q R → Asked → Seen S → Line S → Type 0
-AckTried told memory s AskedSent old e = Unit {0}
-AckTried told memory s (AskedHeld hold) old e = AckFull told memory s old e
-AckTried told memory s (AskedLacks packets words) old e = Unit {0}
-AckTried told memory s AskedBroken old e = Unit {0}
+abbrev pub AckTried : {S A Q R : Type 0} → (S → Option Told) → (S → Tale) → WireFormat Item A Q R → Asked → Seen S → Line S → Type 0
+AckTried told tale s AskedSent old e = Unit {0}
+AckTried told tale s (AskedHeld hold) old e = AckFull told tale s old e
+AckTried told tale s (AskedLacks packets words) old e = Unit {0}
+AckTried told tale s AskedBroken old e = Unit {0}
 
 -- the next packet was sent, or why it wasn't
 abbrev pub AskedBy : {T S A Q R : Type 0} → WireFormat Item A Q R → List A → Asked → Asking T S R → Type 0

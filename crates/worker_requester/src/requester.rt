@@ -4,6 +4,7 @@ ghost use Rattle.channel_trace.specs.Runs.{got_of, sent_of, is_drained};
 ghost use Rattle.channel_trace.specs.declared.event.Event.TheVariants.{Marked as MarkedEvent};
 ghost use Rattle.channel_model.specs.Acks.{acks_for};
 ghost use Rattle.ring_core.specs.Seen.{Seen};
+ghost use Rattle.ring_machine.specs.Endings.{why_of};
 ghost use Rattle.worker_port.specs.Tries.{FoundNone, MarkedOnce};
 ghost use Rattle.channel_model.specs.Channel.{AskerBreaks};
 ghost use Rattle.worker_port.specs.declared.ended.Ended.TheVariants.{Marked as MarkedEnd, PeerMarked as PeerMarkedEnd, Room as RoomEnd, Broken as BrokenEnd};
@@ -11,9 +12,9 @@ ghost use Rattle.worker_port.specs.Causes.{Arms, Polls};
 ghost use Rattle.worker_port.specs.declared.found.Found.TheVariants.{Nothing as NothingFound, Broken as BrokenFound};
 ghost use Rattle.worker_requester.specs.declared.requester.Asked.TheVariants.{Broken as BrokenAsked};
 ghost use Rattle.worker_requester.specs.Causes.{AskCause, AskerActs, AsksOne, AsksOrArms};
-ghost use Rattle.worker_port.specs.Line.{paged_end, line_of, past_as, IsLine, Finds, IsBroken, IsReady, IsSameEnd, HasTakeRoom, TookOne};
+ghost use Rattle.worker_port.specs.Line.{paged_end, line_of, past_as, CameNew, IsLine, Finds, BrokeFor, IsBroken, IsReady, IsSameEnd, HasTakeRoom, TookOne};
 ghost use Rattle.worker_requester.specs.Asking.{FitsPages, AsksBy, AskTurns, AskedFrom, EndsAcked, EverTried, AckTried, HeldAcks, HeldTried, HoldTried, IsPaced, LeavesAcks, AskLacks, AskerLacks, AsksOn, AskEnds, Holds, HasAcked, HasMessage, HasOpen, HasSettled, StandsAsked, TurnTried, waits_under, want_by, AskedBy};
-ghost use Rattle.worker_port.specs.Rooms.{AskedWithin, AskLacksFor, KeepsRoom, broke, is_broken};
+ghost use Rattle.worker_port.specs.Rooms.{AskedWithin, AskLacksFor, KeepsRoom, SaysWhy, broke, is_broken};
 ghost use Rattle.txn_table.specs.Open.{HasNone};
 ghost use Rattle.worker_port.specs.Homes.{HasHome};
 ghost use Rattle.channel_model.specs.Amounts.{room_of};
@@ -112,7 +113,7 @@ impl<T: Protocol, S: Parks + Drop> Requester<T, S> {
         ensures drained { result ≡ NothingFound → self.old.seen ≡ true → is_drained self.new.end.state.past ≡ true }
         ensures seen { self.new.seen ≡ self.old.seen }
         ensures finds { Finds result self.new.end }
-        ensures looked { result ≡ NothingFound → FoundNone S.told S.memory self.old.end.end self.new.end.end }
+        ensures looked { result ≡ NothingFound → FoundNone S.told S.tale self.old.end.end self.new.end.end }
         ensures honest { is_some (S.told self.old.end.seat) ≡ true → result ≢ BrokenFound }
         ensures on { AsksOn S.channel S.told self.old self.new }
     {
@@ -163,8 +164,8 @@ impl<T: Protocol, S: Parks + Drop> Requester<T, S> {
         ensures asked { AskedBy (T.format self.new.protocol) (T.asks self.new.protocol) result self.new }
         ensures seen { self.new.seen ≡ self.old.seen }
         ensures left { HeldAcks (T.format self.new.protocol) result self.new.end }
-        ensures tried { HeldTried S.told S.memory (T.format self.new.protocol) (T.asks self.new.protocol) result self.old.end.end self.new }
-        ensures full { AckTried S.told S.memory (T.format self.new.protocol) result self.old.end.end self.new.end }
+        ensures tried { HeldTried S.told S.tale (T.format self.new.protocol) (T.asks self.new.protocol) result self.old.end.end self.new }
+        ensures full { AckTried S.told S.tale (T.format self.new.protocol) result self.old.end.end self.new.end }
         ensures cause { AsksOne result self.old.end.state.past self.new.end }
         ensures stands { StandsAsked result self.new.end }
         ensures honest { is_some (S.told self.old.end.seat) ≡ true → result ≢ BrokenAsked }
@@ -224,7 +225,7 @@ impl<T: Protocol, S: Parks + Drop> Requester<T, S> {
         requires unseen { self.old.seen ≡ false }
         ensures asked { AskedBy (T.format self.new.protocol) (T.asks self.new.protocol) result self.new }
         ensures unseen { self.new.seen ≡ false }
-        ensures tried { HeldTried S.told S.memory (T.format self.new.protocol) (T.asks self.new.protocol) result self.old.end.end self.new }
+        ensures tried { HeldTried S.told S.tale (T.format self.new.protocol) (T.asks self.new.protocol) result self.old.end.end self.new }
         ensures cause { AsksOne result self.old.end.state.past self.new.end }
         ensures stands { StandsAsked result self.new.end }
         ensures honest { is_some (S.told self.old.end.seat) ≡ true → result ≢ BrokenAsked }
@@ -267,7 +268,7 @@ impl<T: Protocol, S: Parks + Drop> Requester<T, S> {
         requires answers { (a : T.Ask) → slice_get (T.asks self.old.protocol) self.old.next ≡ Some a → (T.format self.old.protocol).has_answer a ≡ false }
         ensures asked { AskedBy (T.format self.new.protocol) (T.asks self.new.protocol) result self.new }
         ensures unseen { self.new.seen ≡ false }
-        ensures tried { HeldTried S.told S.memory (T.format self.new.protocol) (T.asks self.new.protocol) result self.old.end.end self.new }
+        ensures tried { HeldTried S.told S.tale (T.format self.new.protocol) (T.asks self.new.protocol) result self.old.end.end self.new }
         ensures cause { AsksOne result self.old.end.state.past self.new.end }
         ensures stands { StandsAsked result self.new.end }
         ensures honest { is_some (S.told self.old.end.seat) ≡ true → result ≢ BrokenAsked }
@@ -327,7 +328,7 @@ impl<T: Protocol, S: Parks + Drop> Requester<T, S> {
         requires open { HasOpen (T.asks self.old.protocol) self.old }
         ensures asked { AskedBy (T.format self.new.protocol) (T.asks self.new.protocol) result self.new }
         ensures unseen { self.new.seen ≡ false }
-        ensures tried { HeldTried S.told S.memory (T.format self.new.protocol) (T.asks self.new.protocol) result self.old.end.end self.new }
+        ensures tried { HeldTried S.told S.tale (T.format self.new.protocol) (T.asks self.new.protocol) result self.old.end.end self.new }
         ensures cause { AsksOne result self.old.end.state.past self.new.end }
         ensures stands { StandsAsked result self.new.end }
         ensures honest { is_some (S.told self.old.end.seat) ≡ true → result ≢ BrokenAsked }
@@ -363,7 +364,7 @@ impl<T: Protocol, S: Parks + Drop> Requester<T, S> {
         requires holds { Holds (T.format self.old.protocol) (T.asks self.old.protocol) hold self.old }
         ensures turns { AskTurns (T.format self.new.protocol) (T.besides self.new.protocol) (T.asks self.new.protocol) result self.new }
         ensures cause { Arms result self.old.end.state.past self.new.end }
-        ensures tried { (before looked : Seen S) → FoundNone S.told S.memory before looked → HoldTried S.told S.memory (T.format self.old.protocol) (T.asks self.old.protocol) hold looked self.old → TurnTried S.told S.memory (T.format self.new.protocol) (T.asks self.new.protocol) result before self.new }
+        ensures tried { (before looked : Seen S) → FoundNone S.told S.tale before looked → HoldTried S.told S.tale (T.format self.old.protocol) (T.asks self.old.protocol) hold looked self.old → TurnTried S.told S.tale (T.format self.new.protocol) (T.asks self.new.protocol) result before self.new }
         ensures honest { broke result ≡ false }
         ensures on { AsksOn S.channel S.told self.old self.new }
     {
@@ -411,7 +412,7 @@ impl<T: Protocol, S: Parks + Drop> Requester<T, S> {
         ensures none { HasNone self.new.table }
         ensures left { LeavesAcks (T.format self.new.protocol) self.new.end }
         ensures past { self.new.end.state.past ≡ MarkedEvent ∷ self.old.end.state.past }
-        ensures once { MarkedOnce S.told S.memory self.old.end.end self.new.end.end }
+        ensures once { MarkedOnce S.told S.tale self.old.end.end self.new.end.end }
         ensures sent { AskedWithin (T.format self.new.protocol) (length (T.asks self.new.protocol)) self.new.end.state.past }
         ensures paced { IsPaced (T.format self.new.protocol) self.new.starts (T.asks self.new.protocol) self.new.end.state.past }
         ensures ids { AskedFrom (T.format self.new.protocol) (length self.new.table) (T.asks self.new.protocol) self.new.end.state.past }
@@ -434,6 +435,7 @@ impl<T: Protocol, S: Parks + Drop> Requester<T, S> {
         ensures paced { IsPaced (T.format self.now.protocol) self.now.starts (T.asks self.now.protocol) self.now.end.state.past }
         ensures ids { AskedFrom (T.format self.now.protocol) (length self.now.table) (T.asks self.now.protocol) self.now.end.state.past }
     {
+        // For the proof: what a value keeps is known where the value is read.
         let _ = &self.next;
         Ended::Room {
             packets,
@@ -442,18 +444,18 @@ impl<T: Protocol, S: Parks + Drop> Requester<T, S> {
         }
     }
 
-    // A worker whose end is broken gives what it has.
+    // A worker whose end is broken gives what it has, and says why that is so.
     fn broke_off(&self) -> Ended
         requires broken { IsBroken self.now.end }
-        ensures how { result ≡ BrokenEnd }
-        ensures broken { IsBroken self.now.end }
+        ensures how { result ≡ BrokenEnd (why_of self.now.end.state.machine) }
+        ensures broken { BrokeFor (why_of self.now.end.state.machine) self.now.end }
         ensures breaks { AskerBreaks (T.format self.now.protocol) (T.asks self.now.protocol) self.now.end.state.past self.now.told }
         ensures sent { AskedWithin (T.format self.now.protocol) (length (T.asks self.now.protocol)) self.now.end.state.past }
         ensures paced { IsPaced (T.format self.now.protocol) self.now.starts (T.asks self.now.protocol) self.now.end.state.past }
         ensures ids { AskedFrom (T.format self.now.protocol) (length self.now.table) (T.asks self.now.protocol) self.now.end.state.past }
     {
-        let _ = &self.next;
-        Ended::Broken
+        let why = self.port.why();
+        Ended::Broken { why }
     }
 
     // Acknowledges the message that is next. Where the ring has no room for that it rests; once the other end's mark was seen, which makes no more room, it gives
@@ -465,7 +467,7 @@ impl<T: Protocol, S: Parks + Drop> Requester<T, S> {
         requires drained { seen ≡ true → is_drained self.old.end.state.past ≡ true }
         ensures turns { AskTurns (T.format self.new.protocol) (T.besides self.new.protocol) (T.asks self.new.protocol) result self.new }
         ensures cause { AsksOrArms result self.old.end.state.past self.new.end }
-        ensures tried { (before : Seen S) → FoundNone S.told S.memory before self.old.end.end → TurnTried S.told S.memory (T.format self.new.protocol) (T.asks self.new.protocol) result before self.new }
+        ensures tried { (before : Seen S) → FoundNone S.told S.tale before self.old.end.end → TurnTried S.told S.tale (T.format self.new.protocol) (T.asks self.new.protocol) result before self.new }
         ensures honest { is_some (S.told self.old.end.seat) ≡ true → broke result ≡ false }
         ensures on { AsksOn S.channel S.told self.old self.new }
     {
@@ -491,7 +493,7 @@ impl<T: Protocol, S: Parks + Drop> Requester<T, S> {
         requires open { HasOpen (T.asks self.old.protocol) self.old }
         ensures turns { AskTurns (T.format self.new.protocol) (T.besides self.new.protocol) (T.asks self.new.protocol) result self.new }
         ensures cause { AsksOrArms result self.old.end.state.past self.new.end }
-        ensures tried { (before : Seen S) → FoundNone S.told S.memory before self.old.end.end → TurnTried S.told S.memory (T.format self.new.protocol) (T.asks self.new.protocol) result before self.new }
+        ensures tried { (before : Seen S) → FoundNone S.told S.tale before self.old.end.end → TurnTried S.told S.tale (T.format self.new.protocol) (T.asks self.new.protocol) result before self.new }
         ensures honest { is_some (S.told self.old.end.seat) ≡ true → broke result ≡ false }
         ensures on { AsksOn S.channel S.told self.old self.new }
     {
@@ -509,7 +511,7 @@ impl<T: Protocol, S: Parks + Drop> Requester<T, S> {
         requires ready { IsReady self.old.end }
         ensures turns { AskTurns (T.format self.new.protocol) (T.besides self.new.protocol) (T.asks self.new.protocol) result self.new }
         ensures cause { AskerActs result self.old.end.state.past self.new.end }
-        ensures tried { TurnTried S.told S.memory (T.format self.new.protocol) (T.asks self.new.protocol) result self.old.end.end self.new }
+        ensures tried { TurnTried S.told S.tale (T.format self.new.protocol) (T.asks self.new.protocol) result self.old.end.end self.new }
         ensures honest { is_some (S.told self.old.end.seat) ≡ true → broke result ≡ false }
         ensures on { AsksOn S.channel S.told self.old self.new }
     {
@@ -532,7 +534,7 @@ impl<T: Protocol, S: Parks + Drop> Requester<T, S> {
         requires drained { seen ≡ true → is_drained self.old.end.state.past ≡ true }
         ensures turns { AskTurns (T.format self.new.protocol) (T.besides self.new.protocol) (T.asks self.new.protocol) result self.new }
         ensures cause { AsksOrArms result self.old.end.state.past self.new.end }
-        ensures tried { (before : Seen S) → FoundNone S.told S.memory before self.old.end.end → TurnTried S.told S.memory (T.format self.new.protocol) (T.asks self.new.protocol) result before self.new }
+        ensures tried { (before : Seen S) → FoundNone S.told S.tale before self.old.end.end → TurnTried S.told S.tale (T.format self.new.protocol) (T.asks self.new.protocol) result before self.new }
         ensures honest { is_some (S.told self.old.end.seat) ≡ true → broke result ≡ false }
         ensures on { AsksOn S.channel S.told self.old self.new }
     {
@@ -555,7 +557,7 @@ impl<T: Protocol, S: Parks + Drop> Requester<T, S> {
         requires asleep { self.old.end.state.machine.asleep ≡ true }
         requires unmarked { self.old.end.state.machine.marked ≡ false }
         ensures turns { AskTurns (T.format self.new.protocol) (T.besides self.new.protocol) (T.asks self.new.protocol) result self.new }
-        ensures cause { Polls S.told S.memory result self.old.end self.new.end }
+        ensures cause { Polls S.told S.tale result self.old.end self.new.end }
         ensures honest { broke result ≡ false }
         ensures on { AsksOn S.channel S.told self.old self.new }
     {
@@ -653,12 +655,13 @@ impl<T: Protocol, S: Parks + Drop> Requester<T, S> {
         }
     }
 
-    /// A turn: an end that is asleep polls its signal. Otherwise the worker takes a packet, asks the next request, ends, or rests.
-    pub fn turn<R: Wait, G: Gate>(&mut self, _rt: &R, gate: &G) -> Turn
+    /// A turn: an end that is asleep polls its signal. Otherwise the worker takes a packet, asks the next request, ends, or rests. It waits for nobody, and comes back
+    /// whatever stands in the channel's words.
+    pub fn turn<G: Gate>(&mut self, gate: &G) -> Turn
         requires unmarked { self.old.end.state.machine.marked ≡ false }
         ensures turns { AskTurns (T.format self.new.protocol) (T.besides self.new.protocol) (T.asks self.new.protocol) result self.new }
-        ensures cause { AskCause S.told S.memory result self.old.end self.new.end }
-        ensures tried { self.old.end.state.machine.asleep ≡ false → TurnTried S.told S.memory (T.format self.new.protocol) (T.asks self.new.protocol) result self.old.end.end self.new }
+        ensures cause { AskCause S.told S.tale result self.old.end self.new.end }
+        ensures tried { self.old.end.state.machine.asleep ≡ false → TurnTried S.told S.tale (T.format self.new.protocol) (T.asks self.new.protocol) result self.old.end.end self.new }
         ensures room { AskEnds (T.format self.new.protocol) (T.besides self.new.protocol) self.new.starts (length self.new.table) (T.asks self.new.protocol) result self.new.end.state.past }
         ensures honest { is_some (S.told self.old.end.seat) ≡ true → broke result ≡ false }
         ensures on { AsksOn S.channel S.told self.old self.new }
@@ -680,7 +683,15 @@ impl<T: Protocol, S: Parks + Drop> Requester<T, S> {
         ensures paced { IsPaced (T.format self.now.protocol) self.now.starts (T.asks self.now.protocol) self.now.end.state.past }
         ensures ids { AskedFrom (T.format self.now.protocol) (length self.now.table) (T.asks self.now.protocol) self.now.end.state.past }
     {
+        // For the proof: what a value keeps is known where the value is read.
         let _ = &self.next;
+    }
+
+    /// A law, and the call does nothing: whatever its peer wrote, the end came from a new one by whole calls alone, and knows of the channel what their steps answered.
+    pub fn comes_by_calls(&self)
+        ensures { CameNew S.tale self.now.end.end }
+    {
+        self.port.comes_by_calls();
     }
 
     // Sleeps until the signal was up.
@@ -701,6 +712,7 @@ impl<T: Protocol, S: Parks + Drop> Requester<T, S> {
         ensures past { self.end.state.past ≡ past_as T.said result.end.state }
         ensures line { self.end ≡ line_of T.said result.end }
         ensures stands { IsLine S.told result.end }
+        ensures came { CameNew S.tale result.end }
     {
         let Requester {
             protocol,
@@ -736,16 +748,18 @@ impl<T: Protocol, S: Parks + Drop> Requester<T, S> {
         ensures ends { AsksBy (T.format self.protocol) result.ended (T.asks self.protocol) (past_as T.said result.end.state) result.replies.items }
         ensures end { IsSameEnd S.channel self.end.end result.end }
         ensures stands { IsLine S.told result.end }
+        ensures came { CameNew S.tale result.end }
         ensures honest { is_some (S.told self.end.seat) ≡ true → is_broken result.ended ≡ false }
+        ensures broken { SaysWhy result.ended (line_of T.said result.end) }
         ensures sent { AskedWithin (T.format self.protocol) (length (T.asks self.protocol)) (past_as T.said result.end.state) }
         ensures room { AskLacksFor (T.format self.protocol) (T.besides self.protocol) (length (T.asks self.protocol)) result.ended (past_as T.said result.end.state) }
         ensures paced { IsPaced (T.format self.protocol) self.starts (T.asks self.protocol) (past_as T.said result.end.state) }
         ensures ids { AskedFrom (T.format self.protocol) (length self.table) (T.asks self.protocol) (past_as T.said result.end.state) }
         ensures acks { EndsAcked (T.format self.protocol) result.ended (line_of T.said result.end) }
-        ensures tried { EverTried S.channel S.told S.memory (T.format self.protocol) result.ended self.end.end (line_of T.said result.end) }
+        ensures tried { EverTried S.channel S.told S.tale (T.format self.protocol) result.ended self.end.end (line_of T.said result.end) }
     {
         for _ in rt.forever() {
-            match self.turn(rt, gate) {
+            match self.turn(gate) {
                 Turn::Moved => {}
                 Turn::Idle => self.sleep(rt),
                 Turn::Ended(ended) => return self.done(ended),

@@ -14,7 +14,7 @@ use Rattle.ring_core.specs.declared.told.Told.{Told}
 use Rattle.ring_core.specs.Pages.{IsClear, along}
 use Rattle.ring_seat.specs.Lawful.{IsLawful, Lawfully}
 use Rattle.ring_core.specs.Seen.{Seen}
-use Rattle.ring_core.specs.Told.{Memory}
+use Rattle.ring_core.specs.Told.{Tale}
 use Rattle.ring_core.proofs.Paging.{none_along}
 use Rattle.ring_machine.specs.declared.machine.Ending.TheVariants.{Full as EndedFull}
 use Rattle.worker_port.specs.Line.{CanLay, IsSameEnd, Line}
@@ -309,16 +309,16 @@ pub has_room : {S : Type 0} (owed : List Item) (i : Item) (p : List ℕ) (old ne
 has_room owed i p old new first named pages same room =
     room_still owed old new pages same (subst (λ l. HasRoomFor l old) (sym first) (subst (λ q. HasSendRoom q old) (sym named) room))
 
-pub first_full : {S : Type 0} (told : S → Option Told) (memory : S → Option Memory) (owed : List Item) (i : Item) (p words : List ℕ) (old new : Seen S) → owed ≡ i ∷ drop 1 owed → i.packet ≡ p → length words ≤ along old.state.pages p
-    → TriedWith told memory p words old new → new.state.machine.ended ≡ EndedFull → FirstFull told memory owed old new
-first_full told memory owed i p words old new first named fits tried full = record {
+pub first_full : {S : Type 0} (told : S → Option Told) (tale : S → Tale) (owed : List Item) (i : Item) (p words : List ℕ) (old new : Seen S) → owed ≡ i ∷ drop 1 owed → i.packet ≡ p → length words ≤ along old.state.pages p
+    → TriedWith told tale p words old new → new.state.machine.ended ≡ EndedFull → FirstFull told tale owed old new
+first_full told tale owed i p words old new first named fits tried full = record {
   packet = i;
   rest = drop 1 owed;
   first = first;
   full = record {
     words = words;
     bare = λ zero. nil_by words (omega (arith, fits, none_along old.state.pages p zero));
-    tried = subst (λ q. TriedWith told memory q words old new) (sym named) tried;
+    tried = subst (λ q. TriedWith told tale q words old new) (sym named) tried;
     full = full;
   };
 }

@@ -16,7 +16,7 @@ use Rattle.channel_trace.proofs.Pasts.{drained_seen, follows_unmarked}
 use Rattle.hist_lock.specs.Seat.{Call}
 use Rattle.ring_core.specs.declared.told.Told.{Told}
 use Rattle.ring_core.specs.Seen.{Seen}
-use Rattle.ring_core.specs.Told.{Memory}
+use Rattle.ring_core.specs.Told.{Tale}
 use Rattle.channel_model.specs.WireFormat.{WireFormat, Keeps}
 use Rattle.channel_model.specs.Acks.{is_in, own_open, OwnFrom, AllOwnOpen}
 use Rattle.channel_model.specs.Amounts.{MayHaveMessages}
@@ -32,7 +32,7 @@ use Rattle.worker_port.specs.Line.{Line, SleepsFor, page_words}
 use Rattle.ring_core.specs.declared.room.Room.{Room as Spare}
 use Rattle.worker_port.specs.Owed.{is_nil, need_of, MetFull}
 use Rattle.worker_port.specs.Tries.{FoundFull, FoundNone, FoundNothing, MarkedOnce}
-use Rattle.worker_port.specs.Rooms.{ServedWithin, AskedOver, ServeLacksFor, OnlyWith, is_asked}
+use Rattle.worker_port.specs.Rooms.{SaysWhy, ServedWithin, AskedOver, ServeLacksFor, OnlyWith, is_asked}
 use Rattle.txn_table.specs.Open.{HasNone}
 use Rattle.worker_server.specs.Serving.{Responder, Serving, IsServing, Rests, HasRoomFor, HasServed, HasToWait, Closes, ServesPacket, Orders, EndsAll, BreaksOff, CallsEach, AnswersAll, FirstFull, LetsGo, LetsGoTried, LacksPlace, EverTried, LeavesTried, LeftOff, OwedTried, RestsTried, EndsBy, LeavesOff, LacksRoom, ServesOn, IsFull, own_in, has_done, has_served, lacks_call, marked_by}
 use Rattle.worker_port.specs.declared.ended.Turn.TheVariants.{Ended as TurnEnded}
@@ -69,17 +69,17 @@ room_still (p ∷ ps) old new pages same room = subst (λ (r : Spare × ℕ). (0
 pub room_on : {T S E Q R : Type 0} (old new : Serving T S E Q R) → new.responder ≡ old.responder → new.end.end.state.pages.count ≡ old.end.end.state.pages.count → new.end.spare_sent ≡ old.end.spare_sent → HasRoomFor old.responder.owed old.end → HasRoomFor new.responder.owed new.end
 room_on old new responder pages same room = subst (λ d. HasRoomFor d.owed new.end) (sym responder) (room_still old.responder.owed old.end new.end pages same room)
 
-module _ {S : Type 0} (told : S → Option Told) (memory : S → Option Memory) where
+module _ {S : Type 0} (told : S → Option Told) (tale : S → Tale) where
   -- nothing that is owed is tried by no call
-  pub owes_none : (owed : List Item) (e : Seen S) → owed ≡ [] → OwedTried told memory owed e e
-  owes_none owed e none = subst (λ l. OwedTried told memory l e e) (sym none) refl
+  pub owes_none : (owed : List Item) (e : Seen S) → owed ≡ [] → OwedTried told tale owed e e
+  owes_none owed e none = subst (λ l. OwedTried told tale l e e) (sym none) refl
 
-  pub first_tried : (owed : List Item) (old new : Seen S) → FirstFull told memory owed old new → OwedTried told memory owed old new
-  first_tried owed old new f = subst (λ l. OwedTried told memory l old new) (sym f.first) f.full
+  pub first_tried : (owed : List Item) (old new : Seen S) → FirstFull told tale owed old new → OwedTried told tale owed old new
+  first_tried owed old new f = subst (λ l. OwedTried told tale l old new) (sym f.first) f.full
 
   -- a worker that rests tried what is owed first
-  pub rests_tried : (owed : List Item) (want : Option ℕ) (before met looked new : Seen S) → OwedTried told memory owed before met → FoundNone told memory met looked → FoundNothing told memory want looked new → RestsTried told memory owed want before new
-  rests_tried [] want before met looked new h none rested = record { looked = looked; none = subst (λ x. FoundNone told memory x looked) h none; rested = rested }
+  pub rests_tried : (owed : List Item) (want : Option ℕ) (before met looked new : Seen S) → OwedTried told tale owed before met → FoundNone told tale met looked → FoundNothing told tale want looked new → RestsTried told tale owed want before new
+  rests_tried [] want before met looked new h none rested = record { looked = looked; none = subst (λ x. FoundNone told tale x looked) h none; rested = rested }
   rests_tried (p ∷ ps) want before met looked new h none rested = record { tried = met; looked = looked; full = h; none = none; rested = rested }
 
 -- nothing that is owed needs none
@@ -108,6 +108,13 @@ module _ {T S E A Q R : Type 0} (s : WireFormat Item A Q R) (besides : Bool) (w 
   pub wait_served : HasToWait s besides w → HasServed s besides w
   wait_served (inl (all, more)) = inl all
   wait_served (inr (less, full)) = inr full
+
+  -- a worker that ended since its end is broken says why
+  pub says_why : (left_at : S → ℕ) (how : Ended) → LacksRoom left_at s besides how w → SaysWhy how w.end
+  says_why left_at EndedMarked h = tt
+  says_why left_at PeerMarked h = tt
+  says_why left_at (Room packets words left) h = tt
+  says_why left_at (EndedBroken why) h = h.0
 
 -- and it does where none waited, and nothing of that changed
 pub waits_on : {T S E A Q R : Type 0} (sp : T → WireFormat Item A Q R) (besides : T → Bool) (old new : Serving T S E Q R) → new.responder ≡ old.responder → new.served ≡ old.served → new.missing ≡ old.missing → new.stops ≡ old.stops → new.end.state.got ≡ old.end.state.got
@@ -451,10 +458,10 @@ module _ {T S E A Q R : Type 0} (s : WireFormat Item A Q R) (keeps : Keeps s) (b
   marks_gone end' is got awake marked full h = lets_go s keeps besides (record w { end = end'; responder = gone }) full (marked_kept end' is got awake marked h)
 
   -- and it was tried since an earlier end
-  pub gone_tried : (told : E → Option Told) (memory : E → Option Memory) (end' : Line E) (before looked : Seen E) → end'.state.past ≡ Marked ∷ w.end.state.past → end'.state.got ≡ w.end.state.got → end'.state.machine.asleep ≡ false → end'.state.machine.marked ≡ true
-      → MetFull w.responder.owed end' → FoundNone told memory before looked → FirstFull told memory w.responder.owed looked w.end.end → MarkedOnce told memory w.end.end end'.end → IsServing s besides w
-      → LetsGoTried told memory s (record w { end = end'; responder = gone }) before end' w.responder.calls
-  gone_tried told memory end' before looked is got awake marked full none first once h =
+  pub gone_tried : (told : E → Option Told) (tale : E → Tale) (end' : Line E) (before looked : Seen E) → end'.state.past ≡ Marked ∷ w.end.state.past → end'.state.got ≡ w.end.state.got → end'.state.machine.asleep ≡ false → end'.state.machine.marked ≡ true
+      → MetFull w.responder.owed end' → FoundNone told tale before looked → FirstFull told tale w.responder.owed looked w.end.end → MarkedOnce told tale w.end.end end'.end → IsServing s besides w
+      → LetsGoTried told tale s (record w { end = end'; responder = gone }) before end' w.responder.calls
+  gone_tried told tale end' before looked is got awake marked full none first once h =
       let k : IsServing s besides (record w { end = end'; responder = gone }) = marked_kept end' is got awake marked h in
       record {
         goes = record { served = k.kept.served; first = (drop w.served end'.state.got, k.kept.got_is); missing = w.responder.owed; serves = k.kept.serves; few = k.few; full = full };
@@ -462,7 +469,7 @@ module _ {T S E A Q R : Type 0} (s : WireFormat Item A Q R) (keeps : Keeps s) (b
           looked = looked;
           tried = w.end.end;
           none = none;
-          full = subst (λ p. FoundFull told memory p looked w.end.end) (ap first_words (sym first.first ∙ full.first)) first.full;
+          full = subst (λ p. FoundFull told tale p looked w.end.end) (ap first_words (sym first.first ∙ full.first)) first.full;
           marked = once;
         };
       }
@@ -495,13 +502,13 @@ module _ {T S E A Q R : Type 0} (s : WireFormat Item A Q R) (keeps : Keeps s) (b
       by true f = let lacks = marks_lacking end' is none f h in (inr lacks, inr (none, lacks.full))
       by false f = absurd f
 
-  pub follows_tried : (told : E → Option Told) (memory : E → Option Memory) (before : Seen E) (end' : Line E) → end'.state.past ≡ Marked ∷ w.end.state.past → end'.state.got ≡ w.end.state.got → end'.state.machine.asleep ≡ false → end'.state.machine.marked ≡ true
+  pub follows_tried : (told : E → Option Told) (tale : E → Tale) (before : Seen E) (end' : Line E) → end'.state.past ≡ Marked ∷ w.end.state.past → end'.state.got ≡ w.end.state.got → end'.state.machine.asleep ≡ false → end'.state.machine.marked ≡ true
       → got_of end'.state.past ≡ end'.state.got → w.responder.owed ≡ [] → HasServed s besides w → IsServing s besides w
-      → LeavesTried told memory s besides PeerMarked (record w { end = end'; responder = gone }) before end' w.responder.calls
-  follows_tried told memory before end' is got awake marked list none (inl all) h = inl (inl (marks_answered end' is got awake marked list none all h))
-  follows_tried told memory before end' is got awake marked list none (inr full) h = by besides full
+      → LeavesTried told tale s besides PeerMarked (record w { end = end'; responder = gone }) before end' w.responder.calls
+  follows_tried told tale before end' is got awake marked list none (inl all) h = inl (inl (marks_answered end' is got awake marked list none all h))
+  follows_tried told tale before end' is got awake marked list none (inr full) h = by besides full
     where
-      by : (b : Bool) → OnlyWith b (AllOwnOpen s 64 w.end.state.past) → LeavesTried told memory s b PeerMarked (record w { end = end'; responder = gone }) before end' w.responder.calls
+      by : (b : Bool) → OnlyWith b (AllOwnOpen s 64 w.end.state.past) → LeavesTried told tale s b PeerMarked (record w { end = end'; responder = gone }) before end' w.responder.calls
       by true f = inr (marks_lacking end' is none f h)
       by false f = absurd f
 
@@ -522,9 +529,9 @@ module _ {T S E A Q R : Type 0} (s : WireFormat Item A Q R) (keeps : Keeps s) (b
   ends_by true all answers from marked saw = (all, inl (inl answers), from, marked, saw)
   ends_by false all answers from marked saw = (all, answers, from, marked, saw)
 
-  pub tried_by : (told : E → Option Told) (memory : E → Option Memory) (seen : Bool) (before : Seen E) → AnswersAll s w w.end.state.past w.responder.calls → LeavesTried told memory s besides (marked_by seen) w before w.end w.responder.calls
-  tried_by told memory true before answers = inl (inl answers)
-  tried_by told memory false before answers = tt
+  pub tried_by : (told : E → Option Told) (tale : E → Tale) (seen : Bool) (before : Seen E) → AnswersAll s w w.end.state.past w.responder.calls → LeavesTried told tale s besides (marked_by seen) w before w.end w.responder.calls
+  tried_by told tale true before answers = inl (inl answers)
+  tried_by told tale false before answers = tt
 
   pub lacks_none : (left_at : S → ℕ) (seen : Bool) → HasNone w.responder.table → ServedWithin s besides w.end.state.past → LeavesOff s besides w → LacksRoom left_at s besides (marked_by seen) w
   lacks_none left_at true none sent leaves = (none, sent, leaves)
@@ -572,11 +579,11 @@ module _ {T S E A Q R : Type 0} (sp : T → WireFormat Item A Q R) (keeps : (t :
       → LacksRoom left_at (sp responder'.protocol) (besides responder'.protocol) how (record w { end = end'; responder = responder' })
   room_gone left_at how end' responder' responder h = subst (λ d. LacksRoom left_at (sp d.protocol) (besides d.protocol) how (record w { end = end'; responder = d })) (sym responder) h
 
-  pub tried_gone : (told : E → Option Told) (memory : E → Option Memory) (how : Ended) (before : Seen E) (end' : Line E) (responder' : Responder T S Q R) → responder' ≡ record w.responder { table = replicate 64 None }
-      → LeavesTried told memory (sp w.responder.protocol) (besides w.responder.protocol) how (record w { end = end'; responder = record w.responder { table = replicate 64 None } }) before end' w.responder.calls
-      → LeavesTried told memory (sp responder'.protocol) (besides responder'.protocol) how (record w { end = end'; responder = responder' }) before end' responder'.calls
-  tried_gone told memory how before end' responder' responder h =
-      subst (λ d. LeavesTried told memory (sp d.protocol) (besides d.protocol) how (record w { end = end'; responder = d }) before end' d.calls) (sym responder) h
+  pub tried_gone : (told : E → Option Told) (tale : E → Tale) (how : Ended) (before : Seen E) (end' : Line E) (responder' : Responder T S Q R) → responder' ≡ record w.responder { table = replicate 64 None }
+      → LeavesTried told tale (sp w.responder.protocol) (besides w.responder.protocol) how (record w { end = end'; responder = record w.responder { table = replicate 64 None } }) before end' w.responder.calls
+      → LeavesTried told tale (sp responder'.protocol) (besides responder'.protocol) how (record w { end = end'; responder = responder' }) before end' responder'.calls
+  tried_gone told tale how before end' responder' responder h =
+      subst (λ d. LeavesTried told tale (sp d.protocol) (besides d.protocol) how (record w { end = end'; responder = d }) before end' d.calls) (sym responder) h
 
   pub gave_by : (end' : Line E) (responder' : Responder T S Q R) (p : Item) → end'.state.past ≡ Sent p ∷ w.end.state.past → w.responder.owed ≡ p ∷ drop 1 w.responder.owed
       → responder' ≡ record w.responder { owed = drop 1 w.responder.owed; sheets = drop 1 w.responder.sheets } → end'.state.got ≡ w.end.state.got → end'.state.machine.asleep ≡ false → w.end.state.machine.marked ≡ false
@@ -646,35 +653,35 @@ module _ {T S E Q R C : Type 0} (same : S → S → Type 0) (channel : E → C) 
       )
       by (Room packets words left) h =
           (subst (λ b. ServerBreaks (sp u.responder.protocol) b u.serve e.state.past calls) on.held (subst (λ n. ServerBreaks (sp u.responder.protocol) w.responder.held n e.state.past calls) on.serve h.0), h.1)
-      by EndedBroken h =
+      by (EndedBroken why) h =
           (subst (λ b. ServerBreaks (sp u.responder.protocol) b u.serve e.state.past calls) on.held (subst (λ n. ServerBreaks (sp u.responder.protocol) w.responder.held n e.state.past calls) on.serve h.0), h.1)
 
   -- and so is what it tried
-  pub tried_on : {A : Type 0} (memory : E → Option Memory) (sp : T → WireFormat Item A Q R) (besides : T → Bool) (how : Ended) (u w : Serving T S E Q R) (before : Seen E) (e : Line E) (calls : List (Call Q R)) → ServesOn same channel told u w
-      → LeavesTried told memory (sp w.responder.protocol) (besides w.responder.protocol) how w before e calls → LeavesTried told memory (sp u.responder.protocol) (besides u.responder.protocol) how u before e calls
-  tried_on {A = A} memory sp besides how u w before e calls on h = by how (subst (λ t. LeavesTried told memory (sp t) (besides t) how w before e calls) on.protocol h)
+  pub tried_on : {A : Type 0} (tale : E → Tale) (sp : T → WireFormat Item A Q R) (besides : T → Bool) (how : Ended) (u w : Serving T S E Q R) (before : Seen E) (e : Line E) (calls : List (Call Q R)) → ServesOn same channel told u w
+      → LeavesTried told tale (sp w.responder.protocol) (besides w.responder.protocol) how w before e calls → LeavesTried told tale (sp u.responder.protocol) (besides u.responder.protocol) how u before e calls
+  tried_on {A = A} tale sp besides how u w before e calls on h = by how (subst (λ t. LeavesTried told tale (sp t) (besides t) how w before e calls) on.protocol h)
     where
-      goes_on : LetsGoTried told memory (sp u.responder.protocol) w before e calls → LetsGoTried told memory (sp u.responder.protocol) u before e calls
+      goes_on : LetsGoTried told tale (sp u.responder.protocol) w before e calls → LetsGoTried told tale (sp u.responder.protocol) u before e calls
       goes_on k = record {
         goes = record { served = k.goes.served; first = k.goes.first; missing = k.goes.missing; serves = serves_on (sp u.responder.protocol) u w k.goes.served (sent_of e.state.past ++ k.goes.missing) calls on k.goes.serves; few = k.goes.few; full = k.goes.full };
         tried = k.tried;
       }
 
-      by : (how : Ended) → LeavesTried told memory (sp u.responder.protocol) (besides u.responder.protocol) how w before e calls → LeavesTried told memory (sp u.responder.protocol) (besides u.responder.protocol) how u before e calls
+      by : (how : Ended) → LeavesTried told tale (sp u.responder.protocol) (besides u.responder.protocol) how w before e calls → LeavesTried told tale (sp u.responder.protocol) (besides u.responder.protocol) how u before e calls
       by EndedMarked k = tt
       by PeerMarked k =
           on_either (on_either (answers_on (sp u.responder.protocol) u w e.state.past calls on) goes_on) (only_on (besides u.responder.protocol) (place_on (sp u.responder.protocol) u w e.state.past calls on)) k
       by (Room packets words left) k = tt
-      by EndedBroken k = tt
+      by (EndedBroken why) k = tt
 
   -- a worker that ended in a turn had tried what it let go
-  pub ever_tried : {A : Type 0} (memory : E → Option Memory) (sp : T → WireFormat Item A Q R) (besides : T → Bool) (how : Ended) (u v w : Serving T S E Q R) → ServesOn same channel told u v → ServesOn same channel told u w → ServeCause told memory (TurnEnded how) v.end w.end
-      → (v.end.state.machine.asleep ≡ false → LeavesTried told memory (sp w.responder.protocol) (besides w.responder.protocol) how w v.end.end w.end w.responder.calls)
-      → EverTried channel told memory (sp u.responder.protocol) (besides u.responder.protocol) how u w.end w.responder.calls
-  ever_tried memory sp besides how u v w a on cause tried = record {
+  pub ever_tried : {A : Type 0} (tale : E → Tale) (sp : T → WireFormat Item A Q R) (besides : T → Bool) (how : Ended) (u v w : Serving T S E Q R) → ServesOn same channel told u v → ServesOn same channel told u w → ServeCause told tale (TurnEnded how) v.end w.end
+      → (v.end.state.machine.asleep ≡ false → LeavesTried told tale (sp w.responder.protocol) (besides w.responder.protocol) how w v.end.end w.end w.responder.calls)
+      → EverTried channel told tale (sp u.responder.protocol) (besides u.responder.protocol) how u w.end w.responder.calls
+  ever_tried tale sp besides how u v w a on cause tried = record {
     before = v.end.end;
     same = a.end;
-    tried = tried_on memory sp besides how u w v.end.end w.end w.responder.calls on (tried (awake v.end.state.machine.asleep refl));
+    tried = tried_on tale sp besides how u w v.end.end w.end w.responder.calls on (tried (awake v.end.state.machine.asleep refl));
   }
     where
       awake : (b : Bool) → v.end.state.machine.asleep ≡ b → v.end.state.machine.asleep ≡ false

@@ -5,7 +5,7 @@ use Rattle.std.specs.Prelude.{◌≡◌, ◌⊎◌, true, false, List, ◌∷◌
 use Rattle.channel_trace.specs.declared.event.Event.{Event}
 use Rattle.channel_trace.specs.declared.event.Event.TheVariants.{Empty}
 use Rattle.ring_core.specs.declared.told.Told.{Told}
-use Rattle.ring_core.specs.Told.{Memory}
+use Rattle.ring_core.specs.Told.{Tale}
 use Rattle.worker_port.specs.Causes.{FellAsleep, FoundWork, HasSent, HasTaken, Polls}
 use Rattle.worker_port.specs.declared.ended.Turn.{Turn}
 use Rattle.worker_port.specs.declared.ended.Turn.TheVariants.{Moved, Idle, Ended as TurnEnded}
@@ -38,6 +38,6 @@ GivesOrTakes Idle before e = TakesOrArms Idle before e
 GivesOrTakes (TurnEnded how) before e = Unit {0}
 
 -- why a turn of the serving worker went so
-pub record ServeCause {S : Type 0} (told : S → Option Told) (memory : S → Option Memory) (turn : Turn) (old new : Line S) : Type 0 where
-  pub asleep : old.state.machine.asleep ≡ true → Polls told memory turn old new
+pub record ServeCause {S : Type 0} (told : S → Option Told) (tale : S → Tale) (turn : Turn) (old new : Line S) : Type 0 where
+  pub asleep : old.state.machine.asleep ≡ true → Polls told tale turn old new
   pub awake : old.state.machine.asleep ≡ false → GivesOrTakes turn old.state.past new

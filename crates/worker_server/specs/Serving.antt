@@ -8,7 +8,7 @@ use Rattle.hist_lock.specs.Seat.{Call}
 use Rattle.io_edge.specs.declared.side.Side.{Side}
 use Rattle.ring_core.specs.declared.told.Told.{Told}
 use Rattle.ring_core.specs.Seen.{Seen}
-use Rattle.ring_core.specs.Told.{Memory}
+use Rattle.ring_core.specs.Told.{Tale}
 use Rattle.txn_table.specs.Open.{HasNone, request_of}
 use Rattle.channel_model.specs.WireFormat.{WireFormat}
 use Rattle.channel_model.specs.Acks.{is_in, OwnFrom, AllOwnOpen}
@@ -16,7 +16,7 @@ use Rattle.channel_model.specs.Amounts.{room_of}
 use Rattle.channel_model.specs.Server.{Serves}
 use Rattle.channel_model.specs.Channel.{RequestPlan, count_of, held_of, ServerEnds, ServerBreaks}
 use Rattle.channel_model.specs.Workers.{left_after, ServerKept, OwnKept}
-use Rattle.worker_port.specs.Line.{IsBroken, IsReady, IsSameEnd, LacksTake, Line, SleepsFor}
+use Rattle.worker_port.specs.Line.{BrokeFor, IsBroken, IsReady, IsSameEnd, LacksTake, Line, SleepsFor}
 use Rattle.worker_port.specs.Owed.{Written, is_nil, need_of, HasSendRoom, LacksSend, MetFull}
 use Rattle.worker_port.specs.Tries.{FoundFull, LookedRested, TriedLast, TriedLookedRested}
 use Rattle.worker_port.specs.Rooms.{ServedWithin, ServeLacksFor, KeepsRoom, OnlyWith, is_asked}
@@ -181,9 +181,9 @@ pub record LacksPlace {T S E A Q R : Type 0} (s : WireFormat Item A Q R) (w : Se
 
 -- and from an earlier end on it did this alone: it looked for a packet and found none, tried the first packet that is missing and found too little room for it, and
 -- marked its end
-pub record LetsGoTried {T S E A Q R : Type 0} (told : E → Option Told) (memory : E → Option Memory) (s : WireFormat Item A Q R) (w : Serving T S E Q R) (old : Seen E) (e : Line E) (calls : List (Call Q R)) : Type 0 where
+pub record LetsGoTried {T S E A Q R : Type 0} (told : E → Option Told) (tale : E → Tale) (s : WireFormat Item A Q R) (w : Serving T S E Q R) (old : Seen E) (e : Line E) (calls : List (Call Q R)) : Type 0 where
   pub goes : LetsGo s w e calls
-  pub tried : TriedLast told memory goes.full.packet.packet old e.end
+  pub tried : TriedLast told tale goes.full.packet.packet old e.end
 
 -- how it left off that ended after the other end's mark: all is answered, or the first packet that is missing found no room, which the other end makes no more;
 -- or a place of the table is missing, which it makes no more either
@@ -198,20 +198,20 @@ EndsBy s besides Marked w e calls =
 EndsBy s besides PeerMarked w e calls =
     EndsAll s w e.state.past calls × LeftOff s besides w e calls × OwnFrom s 64 e.state.past × (has_marked e.state.past ≡ true) × (has_seen e.state.past ≡ true)
 EndsBy s besides (Room packets words left) w e calls = BreaksOff s w e.state.past calls × OwnFrom s 64 e.state.past
-EndsBy s besides EndedBroken w e calls = BreaksOff s w e.state.past calls × OwnFrom s 64 e.state.past
+EndsBy s besides (EndedBroken why) w e calls = BreaksOff s w e.state.past calls × OwnFrom s 64 e.state.past
 
 -- how it left off from an earlier end on, where it ended after the other end's mark: what is missing was tried since
-abbrev pub LeavesTried : {T S E A Q R : Type 0} → (E → Option Told) → (E → Option Memory) → WireFormat Item A Q R → Bool → Ended → Serving T S E Q R → Seen E → Line E → List (Call Q R) → Type 0
-LeavesTried told memory s besides Marked w old e calls = Unit {0}
-LeavesTried told memory s besides PeerMarked w old e calls = (AnswersAll s w e.state.past calls ⊎ LetsGoTried told memory s w old e calls) ⊎ OnlyWith besides (LacksPlace s w e.state.past calls)
-LeavesTried told memory s besides (Room packets words left) w old e calls = Unit {0}
-LeavesTried told memory s besides EndedBroken w old e calls = Unit {0}
+abbrev pub LeavesTried : {T S E A Q R : Type 0} → (E → Option Told) → (E → Tale) → WireFormat Item A Q R → Bool → Ended → Serving T S E Q R → Seen E → Line E → List (Call Q R) → Type 0
+LeavesTried told tale s besides Marked w old e calls = Unit {0}
+LeavesTried told tale s besides PeerMarked w old e calls = (AnswersAll s w e.state.past calls ⊎ LetsGoTried told tale s w old e calls) ⊎ OnlyWith besides (LacksPlace s w e.state.past calls)
+LeavesTried told tale s besides (Room packets words left) w old e calls = Unit {0}
+LeavesTried told tale s besides (EndedBroken why) w old e calls = Unit {0}
 
 -- and that from some moment on of the end that it had first
-pub record EverTried {T S E C A Q R : Type 0} (channel : E → C) (told : E → Option Told) (memory : E → Option Memory) (s : WireFormat Item A Q R) (besides : Bool) (how : Ended) (w : Serving T S E Q R) (e : Line E) (calls : List (Call Q R)) : Type 0 where
+pub record EverTried {T S E C A Q R : Type 0} (channel : E → C) (told : E → Option Told) (tale : E → Tale) (s : WireFormat Item A Q R) (besides : Bool) (how : Ended) (w : Serving T S E Q R) (e : Line E) (calls : List (Call Q R)) : Type 0 where
   pub before : Seen E
   pub same : IsSameEnd channel w.end.end before
-  pub tried : LeavesTried told memory s besides how w before e calls
+  pub tried : LeavesTried told tale s besides how w before e calls
 
 -- how a worker has ended that marked its end, by whether it had seen the other end's mark
 abbrev pub marked_by : Bool → Ended
@@ -244,7 +244,7 @@ LacksRoom left_at s besides PeerMarked w = HasNone w.responder.table × ServedWi
 LacksRoom left_at s besides (Room packets words left) w =
     Lacks s packets words w × (left ≡ left_at w.responder.seat) × KeepsRoom (room_of besides (w.starts + w.come)) w.end
     × ServeLacksFor s besides (w.starts + w.come) w.serve w.stops (Room packets words left) w.end.state.past × ServedWithin s besides w.end.state.past
-LacksRoom left_at s besides EndedBroken w = IsBroken w.end × ServedWithin s besides w.end.state.past
+LacksRoom left_at s besides (EndedBroken why) w = BrokeFor why w.end × ServedWithin s besides w.end.state.past
 
 -- of a turn that ends: what was sent is no more than what came asks for, and room or a call lacks only where more came than there was made for
 abbrev pub ServeEnds : {T S E A Q R : Type 0} → WireFormat Item A Q R → Bool → Turn → Serving T S E Q R → Type 0
@@ -260,28 +260,28 @@ Turns left_at s besides (TurnEnded how) w = EndsBy s besides how w w.end w.respo
 
 -- from an earlier end on the worker did this alone, and rests: it tried the first of these packets, if there is one, and found too little room for it; it looked for a
 -- packet and found none; and it armed for this room, and found nothing
-abbrev pub RestsTried : {S : Type 0} → (S → Option Told) → (S → Option Memory) → List Item → Option ℕ → Seen S → Seen S → Type 0
-RestsTried told memory [] want old new = LookedRested told memory want old new
-RestsTried told memory (p ∷ ps) want old new = TriedLookedRested told memory p.packet want old new
+abbrev pub RestsTried : {S : Type 0} → (S → Option Told) → (S → Tale) → List Item → Option ℕ → Seen S → Seen S → Type 0
+RestsTried told tale [] want old new = LookedRested told tale want old new
+RestsTried told tale (p ∷ ps) want old new = TriedLookedRested told tale p.packet want old new
 
 -- of a turn of an end that was awake, from this end on: where it rests, the packet that waits for room was tried in it; and where it ended after the other end's mark,
 -- what is missing was
-abbrev pub TurnTried : {T S E A Q R : Type 0} → (E → Option Told) → (E → Option Memory) → WireFormat Item A Q R → Bool → Turn → Seen E → Serving T S E Q R → Type 0
-TurnTried told memory s besides Moved old w = Unit {0}
-TurnTried told memory s besides Idle old w = RestsTried told memory w.responder.owed w.want old w.end.end
-TurnTried told memory s besides (TurnEnded how) old w = LeavesTried told memory s besides how w old w.end w.responder.calls
+abbrev pub TurnTried : {T S E A Q R : Type 0} → (E → Option Told) → (E → Tale) → WireFormat Item A Q R → Bool → Turn → Seen E → Serving T S E Q R → Type 0
+TurnTried told tale s besides Moved old w = Unit {0}
+TurnTried told tale s besides Idle old w = RestsTried told tale w.responder.owed w.want old w.end.end
+TurnTried told tale s besides (TurnEnded how) old w = LeavesTried told tale s besides how w old w.end w.responder.calls
 
 -- the first of these packets was tried once, and found too little room
-pub record FirstFull {S : Type 0} (told : S → Option Told) (memory : S → Option Memory) (owed : List Item) (old new : Seen S) : Type 0 where
+pub record FirstFull {S : Type 0} (told : S → Option Told) (tale : S → Tale) (owed : List Item) (old new : Seen S) : Type 0 where
   pub packet : Item
   pub rest : List Item
   pub first : owed ≡ packet ∷ rest
-  pub full : FoundFull told memory packet.packet old new
+  pub full : FoundFull told tale packet.packet old new
 
 -- the same, where there is one; where there is none the end made no call
-abbrev pub OwedTried : {S : Type 0} → (S → Option Told) → (S → Option Memory) → List Item → Seen S → Seen S → Type 0
-OwedTried told memory [] old new = new ≡ old
-OwedTried told memory (p ∷ ps) old new = FoundFull told memory p.packet old new
+abbrev pub OwedTried : {S : Type 0} → (S → Option Told) → (S → Tale) → List Item → Seen S → Seen S → Type 0
+OwedTried told tale [] old new = new ≡ old
+OwedTried told tale (p ∷ ps) old new = FoundFull told tale p.packet old new
 
 -- a packet that is owed was sent, or nothing changed
 abbrev pub GaveOne : {T S E Q R : Type 0} → Given → Serving T S E Q R → Serving T S E Q R → Type 0

@@ -3,14 +3,15 @@ ghost use Rattle.std.specs.Prelude.{◌≡◌, ◌≢◌, ◌<◌, ◌≤◌, �
 ghost use Rattle.channel_trace.specs.Runs.{got_of, is_drained};
 ghost use Rattle.worker_port.specs.Causes.{Arms, Polls};
 ghost use Rattle.worker_server.specs.Causes.{GivesLast, GivesOne, GivesOrTakes, ServeCause, TakesOrArms};
-ghost use Rattle.worker_port.specs.Line.{paged_end, IsLine, line_of, past_as, Finds, IsBroken, IsReady, IsSameEnd, HasTakeRoom, LacksTake, TookOne};
+ghost use Rattle.worker_port.specs.Line.{paged_end, CameNew, IsLine, line_of, past_as, Finds, BrokeFor, IsBroken, IsReady, IsSameEnd, HasTakeRoom, LacksTake, TookOne};
 ghost use Rattle.worker_port.specs.Owed.{is_nil, LacksSend, MetFull};
-ghost use Rattle.worker_port.specs.Rooms.{KeepsRoom, OnlyWith, ServeLacksFor, ServedWithin, broke, is_broken};
+ghost use Rattle.worker_port.specs.Rooms.{KeepsRoom, OnlyWith, SaysWhy, ServeLacksFor, ServedWithin, broke, is_broken};
 ghost use Rattle.worker_server.specs.Serving.{Closes, EndsBy, EverTried, FirstFull, HasRoomFor, HasServed, HasToWait, Lacks, LacksRoom, LeavesTried, OwedTried, Turns, TurnTried, GaveOne, ServeEnds, ServesOn, BreaksOff, StandsGiven, calls_behind, has_done, lacks_call, marked_by};
 ghost use Rattle.io_edge.specs.declared.side.Side.TheVariants.{Host as HostSide};
 ghost use Rattle.worker_server.specs.Sheets.{TellsLawful};
 ghost use Rattle.worker_port.specs.Tries.{FoundNone};
 ghost use Rattle.ring_core.specs.Seen.{Seen};
+ghost use Rattle.ring_machine.specs.Endings.{why_of};
 ghost use Rattle.channel_model.specs.Acks.{AllOwnOpen, OwnFrom};
 ghost use Rattle.worker_port.specs.declared.found.Found.TheVariants.{Nothing as NothingFound, Broken as BrokenFound};
 ghost use Rattle.worker_server.specs.declared.put.Given.TheVariants.{Broken as BrokenGiven, Full as FullGiven};
@@ -75,7 +76,7 @@ impl<T: Protocol, S: Device<T>, E: Parks + Drop> Server<T, S, E> {
         requires owed { is_nil self.old.responder.owed ≡ false }
         ensures gave { GaveOne result self.old self.new }
         ensures cause { GivesOne result self.old.end.state.past self.new.end }
-        ensures tried { result ≡ FullGiven → FirstFull E.told E.memory self.new.responder.owed self.old.end.end self.new.end.end }
+        ensures tried { result ≡ FullGiven → FirstFull E.told E.tale self.new.responder.owed self.old.end.end self.new.end.end }
         ensures stands { StandsGiven result self.new.end }
         ensures honest { is_some (E.told self.old.end.seat) ≡ true → result ≢ BrokenGiven }
         ensures on { ServesOn S.same E.channel E.told self.old self.new }
@@ -132,7 +133,7 @@ impl<T: Protocol, S: Device<T>, E: Parks + Drop> Server<T, S, E> {
         ensures none { result ≡ NothingFound → self.new.responder ≡ self.old.responder }
         ensures missing { result ≡ NothingFound → self.new.missing ≡ self.old.missing }
         ensures finds { Finds result self.new.end }
-        ensures looked { result ≡ NothingFound → FoundNone E.told E.memory self.old.end.end self.new.end.end }
+        ensures looked { result ≡ NothingFound → FoundNone E.told E.tale self.old.end.end self.new.end.end }
         ensures honest { is_some (E.told self.old.end.seat) ≡ true → result ≢ BrokenFound }
         ensures on { ServesOn S.same E.channel E.told self.old self.new }
     {
@@ -157,7 +158,7 @@ impl<T: Protocol, S: Device<T>, E: Parks + Drop> Server<T, S, E> {
         requires served { self.old.served ≡ length self.old.end.state.got }
         ensures ends { EndsBy (T.format self.new.responder.protocol) (T.besides self.new.responder.protocol) result self.new self.new.end self.new.responder.calls }
         ensures room { LacksRoom S.left (T.format self.new.responder.protocol) (T.besides self.new.responder.protocol) result self.new }
-        ensures tried { (before : Seen E) → LeavesTried E.told E.memory (T.format self.new.responder.protocol) (T.besides self.new.responder.protocol) result self.new before self.new.end self.new.responder.calls }
+        ensures tried { (before : Seen E) → LeavesTried E.told E.tale (T.format self.new.responder.protocol) (T.besides self.new.responder.protocol) result self.new before self.new.end self.new.responder.calls }
         ensures honest { is_broken result ≡ false }
         ensures on { ServesOn S.same E.channel E.told self.old self.new }
     {
@@ -174,7 +175,7 @@ impl<T: Protocol, S: Device<T>, E: Parks + Drop> Server<T, S, E> {
         requires drained { is_drained self.old.end.state.past ≡ true }
         ensures ends { EndsBy (T.format self.new.responder.protocol) (T.besides self.new.responder.protocol) PeerMarkedEnd self.new self.new.end self.new.responder.calls }
         ensures room { LacksRoom S.left (T.format self.new.responder.protocol) (T.besides self.new.responder.protocol) PeerMarkedEnd self.new }
-        ensures tried { (before : Seen E) → LeavesTried E.told E.memory (T.format self.new.responder.protocol) (T.besides self.new.responder.protocol) PeerMarkedEnd self.new before self.new.end self.new.responder.calls }
+        ensures tried { (before : Seen E) → LeavesTried E.told E.tale (T.format self.new.responder.protocol) (T.besides self.new.responder.protocol) PeerMarkedEnd self.new before self.new.end self.new.responder.calls }
         ensures on { ServesOn S.same E.channel E.told self.old self.new }
     {
         self.responder.rescind_all();
@@ -188,7 +189,7 @@ impl<T: Protocol, S: Device<T>, E: Parks + Drop> Server<T, S, E> {
         requires drained { is_drained self.old.end.state.past ≡ true }
         ensures ends { EndsBy (T.format self.new.responder.protocol) (T.besides self.new.responder.protocol) PeerMarkedEnd self.new self.new.end self.new.responder.calls }
         ensures room { LacksRoom S.left (T.format self.new.responder.protocol) (T.besides self.new.responder.protocol) PeerMarkedEnd self.new }
-        ensures tried { (before looked : Seen E) → FoundNone E.told E.memory before looked → FirstFull E.told E.memory self.old.responder.owed looked self.old.end.end → LeavesTried E.told E.memory (T.format self.new.responder.protocol) (T.besides self.new.responder.protocol) PeerMarkedEnd self.new before self.new.end self.new.responder.calls }
+        ensures tried { (before looked : Seen E) → FoundNone E.told E.tale before looked → FirstFull E.told E.tale self.old.responder.owed looked self.old.end.end → LeavesTried E.told E.tale (T.format self.new.responder.protocol) (T.besides self.new.responder.protocol) PeerMarkedEnd self.new before self.new.end self.new.responder.calls }
         ensures on { ServesOn S.same E.channel E.told self.old self.new }
     {
         self.responder.rescind_all();
@@ -203,7 +204,7 @@ impl<T: Protocol, S: Device<T>, E: Parks + Drop> Server<T, S, E> {
         requires unseen { self.old.seen ≡ false }
         ensures turns { Turns S.left (T.format self.new.responder.protocol) (T.besides self.new.responder.protocol) result self.new }
         ensures cause { Arms result self.old.end.state.past self.new.end }
-        ensures tried { (before met : Seen E) → OwedTried E.told E.memory self.old.responder.owed before met → FoundNone E.told E.memory met self.old.end.end → TurnTried E.told E.memory (T.format self.new.responder.protocol) (T.besides self.new.responder.protocol) result before self.new }
+        ensures tried { (before met : Seen E) → OwedTried E.told E.tale self.old.responder.owed before met → FoundNone E.told E.tale met self.old.end.end → TurnTried E.told E.tale (T.format self.new.responder.protocol) (T.besides self.new.responder.protocol) result before self.new }
         ensures honest { broke result ≡ false }
         ensures on { ServesOn S.same E.channel E.told self.old self.new }
     {
@@ -237,17 +238,17 @@ impl<T: Protocol, S: Device<T>, E: Parks + Drop> Server<T, S, E> {
         }
     }
 
-    // A worker whose end is broken gives what it has.
+    // A worker whose end is broken gives what it has, and says why that is so.
     fn broke_off(&self) -> Ended
         requires broken { IsBroken self.now.end }
-        ensures how { result ≡ BrokenEnd }
-        ensures broken { IsBroken self.now.end }
+        ensures how { result ≡ BrokenEnd (why_of self.now.end.state.machine) }
+        ensures broken { BrokeFor (why_of self.now.end.state.machine) self.now.end }
         ensures breaks { BreaksOff (T.format self.now.responder.protocol) self.now self.now.end.state.past self.now.responder.calls }
         ensures own { OwnFrom (T.format self.now.responder.protocol) 64 self.now.end.state.past }
         ensures sent { ServedWithin (T.format self.now.responder.protocol) (T.besides self.now.responder.protocol) self.now.end.state.past }
     {
-        let _ = &self.seen;
-        Ended::Broken
+        let why = self.port.why();
+        Ended::Broken { why }
     }
 
     // Whether the packet that is served next asks the device and no call is left for it: a worker that stops behind its last call lets go what comes
@@ -286,7 +287,7 @@ impl<T: Protocol, S: Device<T>, E: Parks + Drop> Server<T, S, E> {
         requires unseen { is_nil self.old.responder.owed ≡ false → self.old.seen ≡ false }
         ensures turns { Turns S.left (T.format self.new.responder.protocol) (T.besides self.new.responder.protocol) result self.new }
         ensures cause { TakesOrArms result self.old.end.state.past self.new.end }
-        ensures tried { (before : Seen E) → OwedTried E.told E.memory self.old.responder.owed before self.old.end.end → TurnTried E.told E.memory (T.format self.new.responder.protocol) (T.besides self.new.responder.protocol) result before self.new }
+        ensures tried { (before : Seen E) → OwedTried E.told E.tale self.old.responder.owed before self.old.end.end → TurnTried E.told E.tale (T.format self.new.responder.protocol) (T.besides self.new.responder.protocol) result before self.new }
         ensures honest { is_some (E.told self.old.end.seat) ≡ true → broke result ≡ false }
         ensures on { ServesOn S.same E.channel E.told self.old self.new }
     {
@@ -314,7 +315,7 @@ impl<T: Protocol, S: Device<T>, E: Parks + Drop> Server<T, S, E> {
         requires seen { self.old.seen ≡ true }
         ensures turns { Turns S.left (T.format self.new.responder.protocol) (T.besides self.new.responder.protocol) result self.new }
         ensures cause { GivesOrTakes result self.old.end.state.past self.new.end }
-        ensures tried { TurnTried E.told E.memory (T.format self.new.responder.protocol) (T.besides self.new.responder.protocol) result self.old.end.end self.new }
+        ensures tried { TurnTried E.told E.tale (T.format self.new.responder.protocol) (T.besides self.new.responder.protocol) result self.old.end.end self.new }
         ensures honest { is_some (E.told self.old.end.seat) ≡ true → broke result ≡ false }
         ensures on { ServesOn S.same E.channel E.told self.old self.new }
     {
@@ -335,7 +336,7 @@ impl<T: Protocol, S: Device<T>, E: Parks + Drop> Server<T, S, E> {
         requires drained { is_drained self.old.end.state.past ≡ true }
         ensures turns { Turns S.left (T.format self.new.responder.protocol) (T.besides self.new.responder.protocol) result self.new }
         ensures cause { GivesLast result self.old.end.state.past self.new.end }
-        ensures tried { (before : Seen E) → FoundNone E.told E.memory before self.old.end.end → TurnTried E.told E.memory (T.format self.new.responder.protocol) (T.besides self.new.responder.protocol) result before self.new }
+        ensures tried { (before : Seen E) → FoundNone E.told E.tale before self.old.end.end → TurnTried E.told E.tale (T.format self.new.responder.protocol) (T.besides self.new.responder.protocol) result before self.new }
         ensures honest { is_some (E.told self.old.end.seat) ≡ true → broke result ≡ false }
         ensures on { ServesOn S.same E.channel E.told self.old self.new }
     {
@@ -356,7 +357,7 @@ impl<T: Protocol, S: Device<T>, E: Parks + Drop> Server<T, S, E> {
         requires owed { is_nil self.old.responder.owed ≡ false }
         ensures turns { Turns S.left (T.format self.new.responder.protocol) (T.besides self.new.responder.protocol) result self.new }
         ensures cause { GivesOrTakes result self.old.end.state.past self.new.end }
-        ensures tried { TurnTried E.told E.memory (T.format self.new.responder.protocol) (T.besides self.new.responder.protocol) result self.old.end.end self.new }
+        ensures tried { TurnTried E.told E.tale (T.format self.new.responder.protocol) (T.besides self.new.responder.protocol) result self.old.end.end self.new }
         ensures honest { is_some (E.told self.old.end.seat) ≡ true → broke result ≡ false }
         ensures on { ServesOn S.same E.channel E.told self.old self.new }
     {
@@ -379,7 +380,7 @@ impl<T: Protocol, S: Device<T>, E: Parks + Drop> Server<T, S, E> {
         requires served { HasServed (T.format self.old.responder.protocol) (T.besides self.old.responder.protocol) self.old }
         ensures turns { Turns S.left (T.format self.new.responder.protocol) (T.besides self.new.responder.protocol) result self.new }
         ensures cause { TakesOrArms result self.old.end.state.past self.new.end }
-        ensures tried { TurnTried E.told E.memory (T.format self.new.responder.protocol) (T.besides self.new.responder.protocol) result self.old.end.end self.new }
+        ensures tried { TurnTried E.told E.tale (T.format self.new.responder.protocol) (T.besides self.new.responder.protocol) result self.old.end.end self.new }
         ensures honest { is_some (E.told self.old.end.seat) ≡ true → broke result ≡ false }
         ensures on { ServesOn S.same E.channel E.told self.old self.new }
     {
@@ -423,7 +424,7 @@ impl<T: Protocol, S: Device<T>, E: Parks + Drop> Server<T, S, E> {
         requires ready { IsReady self.old.end }
         ensures turns { Turns S.left (T.format self.new.responder.protocol) (T.besides self.new.responder.protocol) result self.new }
         ensures cause { GivesOrTakes result self.old.end.state.past self.new.end }
-        ensures tried { TurnTried E.told E.memory (T.format self.new.responder.protocol) (T.besides self.new.responder.protocol) result self.old.end.end self.new }
+        ensures tried { TurnTried E.told E.tale (T.format self.new.responder.protocol) (T.besides self.new.responder.protocol) result self.old.end.end self.new }
         ensures honest { is_some (E.told self.old.end.seat) ≡ true → broke result ≡ false }
         ensures on { ServesOn S.same E.channel E.told self.old self.new }
     {
@@ -446,7 +447,7 @@ impl<T: Protocol, S: Device<T>, E: Parks + Drop> Server<T, S, E> {
         requires asleep { self.old.end.state.machine.asleep ≡ true }
         requires unmarked { self.old.end.state.machine.marked ≡ false }
         ensures turns { Turns S.left (T.format self.new.responder.protocol) (T.besides self.new.responder.protocol) result self.new }
-        ensures cause { Polls E.told E.memory result self.old.end self.new.end }
+        ensures cause { Polls E.told E.tale result self.old.end self.new.end }
         ensures honest { broke result ≡ false }
         ensures on { ServesOn S.same E.channel E.told self.old self.new }
     {
@@ -519,12 +520,13 @@ impl<T: Protocol, S: Device<T>, E: Parks + Drop> Server<T, S, E> {
         }
     }
 
-    /// A turn: an end that is asleep polls its signal. Otherwise the worker sends what it owes, serves what came, takes a packet, ends, or rests.
+    /// A turn: an end that is asleep polls its signal. Otherwise the worker sends what it owes, serves what came, takes a packet, ends, or rests. It waits for its
+    /// device alone, and for nobody at the channel.
     pub fn turn<R: Wait, G: Gate>(&mut self, rt: &R, gate: &G) -> Turn
         requires unmarked { self.old.end.state.machine.marked ≡ false }
         ensures turns { Turns S.left (T.format self.new.responder.protocol) (T.besides self.new.responder.protocol) result self.new }
-        ensures cause { ServeCause E.told E.memory result self.old.end self.new.end }
-        ensures tried { self.old.end.state.machine.asleep ≡ false → TurnTried E.told E.memory (T.format self.new.responder.protocol) (T.besides self.new.responder.protocol) result self.old.end.end self.new }
+        ensures cause { ServeCause E.told E.tale result self.old.end self.new.end }
+        ensures tried { self.old.end.state.machine.asleep ≡ false → TurnTried E.told E.tale (T.format self.new.responder.protocol) (T.besides self.new.responder.protocol) result self.old.end.end self.new }
         ensures room { ServeEnds (T.format self.new.responder.protocol) (T.besides self.new.responder.protocol) result self.new }
         ensures honest { is_some (E.told self.old.end.seat) ≡ true → broke result ≡ false }
         ensures on { ServesOn S.same E.channel E.told self.old self.new }
@@ -536,6 +538,13 @@ impl<T: Protocol, S: Device<T>, E: Parks + Drop> Server<T, S, E> {
             return Turn::Ended(self.broke_off());
         }
         self.work(rt, gate)
+    }
+
+    /// A law, and the call does nothing: whatever its peer wrote, the end came from a new one by whole calls alone, and knows of the channel what their steps answered.
+    pub fn comes_by_calls(&self)
+        ensures { CameNew E.tale self.now.end.end }
+    {
+        self.port.comes_by_calls();
     }
 
     // Sleeps until the signal was up.
@@ -557,6 +566,7 @@ impl<T: Protocol, S: Device<T>, E: Parks + Drop> Server<T, S, E> {
         ensures same { (result.end ≡ self.end.end) × (result.seat ≡ self.responder.seat) }
         ensures line { self.end ≡ line_of T.said result.end }
         ensures stands { IsLine E.told result.end }
+        ensures came { CameNew E.tale result.end }
     {
         let Server {
             responder,
@@ -584,13 +594,15 @@ impl<T: Protocol, S: Device<T>, E: Parks + Drop> Server<T, S, E> {
     pub fn run<R: Wait, G: Gate>(mut self, rt: &R, gate: &G) -> ServerDone<T, S, E>
         requires unmarked { self.end.state.machine.marked ≡ false }
         ensures ends { EndsBy (T.format self.responder.protocol) (T.besides self.responder.protocol) result.ended self (line_of T.said result.end) (calls_behind self.responder.before (S.calls result.seat)) }
-        ensures tried { EverTried E.channel E.told E.memory (T.format self.responder.protocol) (T.besides self.responder.protocol) result.ended self (line_of T.said result.end) (calls_behind self.responder.before (S.calls result.seat)) }
+        ensures tried { EverTried E.channel E.told E.tale (T.format self.responder.protocol) (T.besides self.responder.protocol) result.ended self (line_of T.said result.end) (calls_behind self.responder.before (S.calls result.seat)) }
         ensures before { take (length self.responder.before) (S.calls result.seat) ≡ self.responder.before }
         ensures serials { result.serials.items ≡ map (λ c. c.serial) (calls_behind self.responder.before (S.calls result.seat)) }
         ensures end { IsSameEnd E.channel self.end.end result.end }
         ensures stands { IsLine E.told result.end }
+        ensures came { CameNew E.tale result.end }
         ensures seat { S.same self.responder.seat result.seat }
         ensures honest { is_some (E.told self.end.seat) ≡ true → is_broken result.ended ≡ false }
+        ensures broken { SaysWhy result.ended (line_of T.said result.end) }
         ensures sent { ServedWithin (T.format self.responder.protocol) (T.besides self.responder.protocol) (past_as T.said result.end.state) }
         ensures room { ServeLacksFor (T.format self.responder.protocol) (T.besides self.responder.protocol) (self.starts + self.come) self.serve self.stops result.ended (past_as T.said result.end.state) }
     {

@@ -1,4 +1,4 @@
-use Rattle.std.proofs.Common.{◌≡◌, ◌<◌, [], Bool, List, ℕ, Option, Some, None, length, refl, sym, ap, ◌∙◌, arith}
+use Rattle.std.proofs.Common.{◌≡◌, ◌<◌, Option, Some, None, length, refl, sym, ap, ◌∙◌, arith}
 use Rattle.std.proofs.lemmas.Bool.Decides.{nat_tests}
 use Rattle.std.specs.Prelude.{is_some}
 use Rattle.page_kept.specs.Kept.{pages_sent}
@@ -7,6 +7,8 @@ use Rattle.ring_core.specs.Pages.{last_words}
 use Rattle.page_table.specs.Table.{part_in}
 use Rattle.ring_core.specs.Laying.{laid}
 use Rattle.worker_port.proofs.PageLaws.{laid_none, nil_by, stores_tell, take_nil}
+use Rattle.ring_end_history.proofs.Joining.{came_refl}
+use Rattle.worker_port.proofs.CameLaws.{lays_came}
 use Rattle.worker_port.proofs.carry.lay_all.Goals as goal
 
 pub returns-then-is_empty-clause-pages : goal.returns-then-is_empty-clause-pages
@@ -42,3 +44,9 @@ returns-clause-tells g c = by (part_in c.args.end.now.state.pages.owners c.args.
     by : (o : Option Loan) → part_in c.args.end.now.state.pages.owners c.args.packet.now ≡ o → is_some (g.S.Seatlike.told c.lay.new.self.seat) ≡ is_some (g.S.Seatlike.told c.args.end.now.seat)
     by None e = ap (λ x. is_some (g.S.Seatlike.told x.seat)) (c.lay.ensures.none e)
     by (Some a) e = stores_tell _ _ a.page c.args.words.now _ _ _ _ (c.lay.ensures.ran a e)
+
+pub returns-then-is_empty-clause-came : goal.returns-then-is_empty-clause-came
+returns-then-is_empty-clause-came g c = came_refl g.S.Seatlike.tale _
+
+pub returns-clause-came : goal.returns-clause-came
+returns-clause-came g c = lays_came g.S.Seatlike.tale g.S.Seatlike.told _ _ c.requires.idle (part_in c.args.end.now.state.pages.owners c.args.packet.now) c.args.words.now c.lay.ensures.none c.lay.ensures.ran

@@ -1,4 +1,4 @@
-use Rattle.std.proofs.Common.{◌≡◌, ℕ, List, rules, subst, take}
+use Rattle.std.proofs.Common.{ℕ, List, rules, subst, take}
 use Rattle.std.proofs.lemmas.List.{with_items_is, places}
 use Rattle.channel_protocol.specs.Paged.{Lays}
 use Rattle.worker_port.proofs.packet_buffer.PacketBuffer.write_answer.Goals as goal

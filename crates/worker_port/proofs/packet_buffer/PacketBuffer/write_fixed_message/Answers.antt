@@ -1,4 +1,4 @@
-use Rattle.std.proofs.Common.{◌≡◌, ℕ, List, rules, subst, sym, take}
+use Rattle.std.proofs.Common.{ℕ, List, rules, subst, sym, take}
 use Rattle.std.proofs.lemmas.List.{with_items_is, places}
 use Rattle.channel_protocol.specs.Listed.{message_in}
 use Rattle.channel_protocol.specs.Paged.{LaysSome}

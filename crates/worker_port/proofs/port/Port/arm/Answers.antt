@@ -4,7 +4,22 @@ use Rattle.worker_port.proofs.ItemLaws.{arm_past, got_same_as}
 use Rattle.worker_port.proofs.PortLaws.{arm_waits}
 use Rattle.worker_port.specs.Homes.{KeepsHome}
 use Rattle.worker_port.proofs.HomeLaws.{quiet_home}
+use Rattle.ring_machine.specs.Steps.{is_busy_at}
+use Rattle.ring_end_history.specs.Calls.{ArmCall}
+use Rattle.ring_end_history.proofs.Joining.{came_call}
+use Rattle.worker_port.proofs.CameLaws.{came_on}
+use Rattle.worker_port.proofs.PortLaws.{arm_line}
+use Rattle.ring_machine.specs.Endings.{want_of}
 use Rattle.worker_port.proofs.port.Port.arm.Goals as goal
+
+pub invariant_of-self : goal.invariant_of-self
+invariant_of-self g c =
+    let e = c.arm-found.ensures in
+    let idle = ap (λ (x : Line _). x.state.machine.stage) c.self.view_is ∙ c.requires.ready.idle in
+    record {
+      line = arm_line g.S.Seatlike.told _ _ e.kept e.leaves e.past (ap (λ (x : Line _). x.state.machine.marked) c.self.view_is ∙ c.requires.ready.unmarked) c.self.invariant.line e.after e.answer.1;
+      came = came_on g.S.Seatlike.tale _ _ c.self.invariant.came (came_call g.S.Seatlike.tale g.S.Seatlike.told (ArmCall (want_of c.args.want)) _ _ idle e.ran (ap is_busy_at (e.after.idle (λ e. cc) (λ e. cc))));
+    }
 
 pub returns-clause-want : goal.returns-clause-want
 returns-clause-want g c =

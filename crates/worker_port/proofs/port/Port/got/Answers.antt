@@ -1,4 +1,4 @@
-use Rattle.std.proofs.Common.{◌≡◌, ◌≤◌, [], List, ℕ, length, refl, sym, ap, ◌∙◌, arith, Some}
+use Rattle.std.proofs.Common.{◌≤◌, List, ℕ, length, sym, ap, ◌∙◌, arith, Some}
 use Rattle.std.specs.Prelude.{slice_get}
 use Rattle.page_kept.specs.declared.item.Item.{Item}
 use Rattle.page_kept.specs.Items.{item_of}
@@ -17,13 +17,13 @@ pub returns-clause-value : goal.returns-clause-value
 returns-clause-value g c =
     let e = c.self.inside.end in
     ap (λ (x : Line _). slice_get x.state.got c.args.i) (sym c.self.view_is)
-    ∙ (line_at g.T.Protocol.said e.state c.args.i _ (items_along g.S.Seatlike.told e c.self.invariant).1 (ap (λ l. slice_get l c.args.i) (sym c.got.ensures.list) ∙ c.in-Some.ensures)
+    ∙ (line_at g.T.Protocol.said e.state c.args.i _ (items_along g.S.Seatlike.told e c.self.invariant.line).1 (ap (λ l. slice_get l c.args.i) (sym c.got.ensures.list) ∙ c.in-Some.ensures)
     ∙ ap (λ (x : Line _). Some (g.T.Protocol.said (item_of c.in-Some.packet.now (words_at x.end.state.pages.got c.args.i)))) c.self.view_is)
 
 pub returns-clause-bare : goal.returns-clause-bare
 returns-clause-bare g c = λ z.
     let e = c.self.inside.end in
-    let none = (c.self.invariant.pages.none (ap (λ (x : Line _). x.end.state.pages.count) c.self.view_is ∙ z)).1 in
+    let none = (c.self.invariant.line.pages.none (ap (λ (x : Line _). x.end.state.pages.count) c.self.view_is ∙ z)).1 in
     ap (λ (x : Line _). slice_get x.state.got c.args.i) (sym c.self.view_is)
-    ∙ (line_at g.T.Protocol.said e.state c.args.i _ (items_along g.S.Seatlike.told e c.self.invariant).1 (ap (λ l. slice_get l c.args.i) (sym c.got.ensures.list) ∙ c.in-Some.ensures)
+    ∙ (line_at g.T.Protocol.said e.state c.args.i _ (items_along g.S.Seatlike.told e c.self.invariant.line).1 (ap (λ l. slice_get l c.args.i) (sym c.got.ensures.list) ∙ c.in-Some.ensures)
     ∙ ap (λ (w : List ℕ). Some (g.T.Protocol.said (item_of c.in-Some.packet.now w))) (ap (λ (is : List Item). words_at is c.args.i) none ∙ no_words c.args.i))

@@ -1,4 +1,4 @@
-use Rattle.std.proofs.Common.{◌≡◌, ap, ◌-◌, ◌∙◌}
+use Rattle.std.proofs.Common.{ap, ◌-◌, ◌∙◌}
 use Rattle.worker_port.specs.Line.{words_at}
 use Rattle.worker_port.proofs.port.Port.last_words.Goals as goal
 

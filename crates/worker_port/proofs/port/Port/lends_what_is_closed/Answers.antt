@@ -11,4 +11,4 @@ use Rattle.worker_port.proofs.port.Port.lends_what_is_closed.Goals as goal
 pub returns : goal.returns
 returns g c =
     subst (λ (x : Line _). (is_open : ℕ → Bool) (p : List ℕ) → HasHome is_open x.end.state → (kind_of p == 11) ≡ false → is_open (id_of p) ≡ false → LendsItsOwn (layout x.end.state.pages.count) x.end.state.machine.side p → MayLend x.end.state p) c.self.view_is
-    (home_lends c.self.inside.end.state c.self.invariant.pages.clear)
+    (home_lends c.self.inside.end.state c.self.invariant.line.pages.clear)

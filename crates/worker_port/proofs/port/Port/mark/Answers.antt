@@ -6,7 +6,21 @@ use Rattle.worker_port.proofs.ItemLaws.{got_same_as, line_got, line_marked, mark
 use Rattle.worker_port.proofs.PortLaws.{mark_keeps}
 use Rattle.worker_port.specs.Homes.{KeepsHome}
 use Rattle.worker_port.proofs.HomeLaws.{quiet_home}
+use Rattle.ring_machine.specs.Steps.{is_busy_at}
+use Rattle.ring_end_history.specs.Calls.{MarkCall}
+use Rattle.ring_end_history.proofs.Joining.{came_call}
+use Rattle.worker_port.proofs.CameLaws.{came_on}
+use Rattle.worker_port.proofs.PortLaws.{mark_line}
 use Rattle.worker_port.proofs.port.Port.mark.Goals as goal
+
+pub invariant_of-self : goal.invariant_of-self
+invariant_of-self g c =
+    let e = c.mark.ensures in
+    let idle = ap (λ (x : Line _). x.state.machine.stage) c.self.view_is ∙ c.requires.ready.idle in
+    record {
+      line = mark_line g.S.Seatlike.told _ _ e.kept e.leaves e.past (ap (λ (x : Line _). x.state.machine.marked) c.self.view_is ∙ c.requires.ready.unmarked) c.self.invariant.line e.after e.call;
+      came = came_on g.S.Seatlike.tale _ _ c.self.invariant.came (came_call g.S.Seatlike.tale g.S.Seatlike.told MarkCall _ _ idle e.ran (ap is_busy_at (e.after.idle (λ e. cc) (λ e. cc))));
+    }
 
 pub returns-clause-found : goal.returns-clause-found
 returns-clause-found g c =
@@ -23,14 +37,14 @@ returns-clause-past g c =
 pub returns-clause-first : goal.returns-clause-first
 returns-clause-first g c =
     ap (λ (x : Line _). has_marked x.state.past) (sym c.self.view_is)
-    ∙ (line_marked g.T.Protocol.said c.self.inside.end.state ∙ (sym c.self.invariant.mark ∙ (ap (λ (x : Line _). x.state.machine.marked) c.self.view_is ∙ c.requires.ready.unmarked)))
+    ∙ (line_marked g.T.Protocol.said c.self.inside.end.state ∙ (sym c.self.invariant.line.mark ∙ (ap (λ (x : Line _). x.state.machine.marked) c.self.view_is ∙ c.requires.ready.unmarked)))
 
 pub returns-clause-got : goal.returns-clause-got
 returns-clause-got g c =
     let e = c.mark.ensures in
     let n = c.mark.new.self.state in
     ap got_of (mark_past g.T.Protocol.said c.self.inside.end.state n n.machine.ended n.machine.saw e.call e.past e.kept.sent e.kept.got e.kept.pages)
-    ∙ (line_got g.T.Protocol.said c.self.inside.end c.self.invariant ∙ sym (got_same_as g.T.Protocol.said c.self.inside.end.state n e.kept.got e.kept.pages))
+    ∙ (line_got g.T.Protocol.said c.self.inside.end c.self.invariant.line ∙ sym (got_same_as g.T.Protocol.said c.self.inside.end.state n e.kept.got e.kept.pages))
 
 pub returns-clause-lists : goal.returns-clause-lists
 returns-clause-lists g c =

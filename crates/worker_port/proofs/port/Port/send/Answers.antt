@@ -1,4 +1,4 @@
-use Rattle.std.proofs.Common.{◌≡◌, Bool, true, false, cond, is_some, length, refl, sym, ap, ◌∙◌, subst, arith, eqb}
+use Rattle.std.proofs.Common.{◌≡◌, cond, is_some, length, sym, ap, ◌∙◌, subst, arith}
 use Rattle.channel_trace.specs.Runs.{has_marked}
 use Rattle.page_kept.specs.Items.{item_of}
 use Rattle.ring_sleep.proofs.Telling.{tells_on, told_of}
@@ -20,6 +20,9 @@ use Rattle.worker_port.specs.Homes.{SendsHome}
 use Rattle.worker_port.proofs.HomeLaws.{home_sent}
 use Rattle.worker_port.proofs.PortLaws.{was_sent}
 use Rattle.worker_port.proofs.SendLaws.{stored}
+use Rattle.ring_end_history.specs.Calls.{SendCall}
+use Rattle.ring_end_history.proofs.Joining.{came_call, came_trans}
+use Rattle.worker_port.proofs.CameLaws.{came_on}
 use Rattle.worker_port.proofs.port.Port.send.Goals as goal
 
 pub lay_all-requires-clause-idle : goal.lay_all-requires-clause-idle
@@ -34,12 +37,12 @@ send-requires-clause-room g c =
     let e = c.lay_all.ensures in
     let old = c.self.inside.end in (
       omega (arith, ap (λ r. r.packets) e.kept.0.spare_sent, ap (λ (x : Line _). x.spare_sent.packets) v, c.requires.room.0),
-      omega (arith, ap (λ r. r.words) e.kept.0.spare_sent, ap (λ (x : Line _). x.spare_sent.words) v, c.requires.room.1, e.along, along_few old.state.pages c.args.packet.now c.self.invariant.pages.held, ap (λ (x : Line _). page_words x.end.state.pages.count 1) v),
+      omega (arith, ap (λ r. r.words) e.kept.0.spare_sent, ap (λ (x : Line _). x.spare_sent.words) v, c.requires.room.1, e.along, along_few old.state.pages c.args.packet.now c.self.invariant.line.pages.held, ap (λ (x : Line _). page_words x.end.state.pages.count 1) v),
     )
 
 pub invariant_of-self : goal.invariant_of-self
 invariant_of-self g c =
-    let l = c.self.invariant in
+    let l = c.self.invariant.line in
     let a = c.lay_all.ensures in
     let e = c.send.ensures in
     let v = c.self.view_is in
@@ -47,13 +50,18 @@ invariant_of-self g c =
     let n = c.send.new.self.state in
     let pages = carried c.self.inside.end.state.pages c.lay_all.new.end.state.pages n.pages c.args.packet.now c.args.words.now a.pages (is_sent n.machine.ended) (e.pages idle) in
     let tells = tells_on _ _ _ _ _ _ (e.ran idle) ∙ a.tells in
+    let tale = g.S.Seatlike.tale in
+    let told = g.S.Seatlike.told in
+    let p = c.args.packet.now in
+    let line =
     sent_line g.S.Seatlike.told c.self.inside.end c.send.new.self c.args.packet.now tells (λ is. let u = told_of (g.S.Seatlike.told c.lay_all.new.end.seat) (a.tells ∙ is) in (e.honest u.0 u.1).1) (subst (λ m. Leaves m n.machine) a.kept.0.machine (e.leaves idle)) (e.answer idle).1 (subst (λ m. LeavesBy Send m n.machine) a.kept.0.machine (e.after idle))
     ((e.lists idle).1 ∙ ap (past_of n.machine.ended n.machine.saw c.args.packet.now) a.kept.0.past) ((e.lists idle).0 ∙ ap (λ l. sent_by n.machine l c.args.packet.now) a.kept.0.sent) (e.kept.0 ∙ a.kept.0.got) (e.same.1 ∙ ap (λ m. m.cells) a.kept.0.machine) pages
-    c.items_fit.ensures.items c.items_fit.ensures.bare (ap (λ (x : Line _). x.state.machine.marked) v ∙ c.requires.ready.unmarked) l
+    c.items_fit.ensures.items c.items_fit.ensures.bare (ap (λ (x : Line _). x.state.machine.marked) v ∙ c.requires.ready.unmarked) l in
+    record { line = line; came = came_on tale _ _ c.self.invariant.came (came_trans tale _ c.lay_all.new.end _ a.came (came_call tale told (SendCall p) _ _ idle (e.ran idle) line.rests)) }
 
 pub returns-clause-past : goal.returns-clause-past
 returns-clause-past g c =
-    let l = c.self.invariant in
+    let l = c.self.invariant.line in
     let a = c.lay_all.ensures in
     let e = c.send.ensures in
     let v = c.self.view_is in
@@ -129,7 +137,7 @@ returns-clause-got g c =
 pub returns-clause-unmarked : goal.returns-clause-unmarked
 returns-clause-unmarked g c =
     ap (λ (x : Line _). has_marked x.state.past) (sym c.self.view_is)
-    ∙ (line_marked g.T.Protocol.said c.self.inside.end.state ∙ (sym c.self.invariant.mark ∙ (ap (λ (x : Line _). x.state.machine.marked) c.self.view_is ∙ c.requires.ready.unmarked)))
+    ∙ (line_marked g.T.Protocol.said c.self.inside.end.state ∙ (sym c.self.invariant.line.mark ∙ (ap (λ (x : Line _). x.state.machine.marked) c.self.view_is ∙ c.requires.ready.unmarked)))
 
 pub returns-clause-unsent : goal.returns-clause-unsent
 returns-clause-unsent g c = λ none.
@@ -153,7 +161,7 @@ returns-clause-tried g c =
     let e = c.send.ensures in
     let a = c.lay_all.ensures in
     let idle = ap (λ m. m.stage) a.kept.0.machine ∙ (ap (λ (x : Line _). x.state.machine.stage) c.self.view_is ∙ c.requires.ready.idle) in
-    record { laid = c.lay_all.new.end; lays = subst (λ (x : Line _). LaidOnce g.S.Seatlike.told g.S.Seatlike.memory c.args.packet.now c.args.words.now x.end c.lay_all.new.end) c.self.view_is a.laid; tried = e.ran idle }
+    record { laid = c.lay_all.new.end; lays = subst (λ (x : Line _). LaidOnce g.S.Seatlike.told g.S.Seatlike.tale c.args.packet.now c.args.words.now x.end c.lay_all.new.end) c.self.view_is a.laid; tried = e.ran idle }
 
 pub returns-clause-full : goal.returns-clause-full
 returns-clause-full g c = λ full.
@@ -171,7 +179,7 @@ returns-clause-into g c =
     let s = a.kept.0.spare_sent in
     record {
       packets = omega (arith, r.packets, ap (λ x. x.packets) s, ap (λ (x : Line _). x.spare_sent.packets) v);
-      words_is = omega (arith, r.words, ap (λ x. x.words) s, ap (λ (x : Line _). x.spare_sent.words) v, a.along, along_few c.self.inside.end.state.pages c.args.packet.now c.self.invariant.pages.held, ap (λ (x : Line _). page_words x.end.state.pages.count 1) v);
+      words_is = omega (arith, r.words, ap (λ x. x.words) s, ap (λ (x : Line _). x.spare_sent.words) v, a.along, along_few c.self.inside.end.state.pages c.args.packet.now c.self.invariant.line.pages.held, ap (λ (x : Line _). page_words x.end.state.pages.count 1) v);
     }
 
 pub returns-clause-home : goal.returns-clause-home
@@ -187,5 +195,5 @@ returns-clause-home g c =
     let p = c.args.packet.now in
     let how = c.tried_by-tried.ensures in
     subst (λ (x : Line _). SendsHome c.tried_by-tried.result p x.end.state n) v
-    (home_sent old.state n l p c.args.words.now (stored old.state.pages l p c.args.words.now a.pages) c.self.invariant.pages.listed (e.same.2 ∙ ap (λ x. x.side) a.kept.0.machine) (e.kept.0 ∙ a.kept.0.got) c.tried_by-tried.result (is_sent m.ended)
+    (home_sent old.state n l p c.args.words.now (stored old.state.pages l p c.args.words.now a.pages) c.self.invariant.line.pages.listed (e.same.2 ∙ ap (λ x. x.side) a.kept.0.machine) (e.kept.0 ∙ a.kept.0.got) c.tried_by-tried.result (is_sent m.ended)
     (λ is. was_sent m.ended m c.send.result (e.answer idle).1 (e.answer idle).0 (sym how ∙ is)) (λ none. not_sent m.ended m c.send.result (e.answer idle).1 (e.answer idle).0 (λ is. none (how ∙ is))) (e.pages idle))

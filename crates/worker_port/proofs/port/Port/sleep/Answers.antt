@@ -1,13 +1,17 @@
 use Rattle.std.proofs.Common.{ap, ◌∙◌, subst}
 use Rattle.worker_port.specs.Line.{Line}
 use Rattle.worker_port.proofs.ItemLaws.{got_same_as, past_same}
+use Rattle.worker_port.proofs.CameLaws.{came_on}
 use Rattle.worker_port.proofs.PortLaws.{slept_line}
 use Rattle.worker_port.specs.Homes.{KeepsHome}
 use Rattle.worker_port.proofs.HomeLaws.{quiet_home}
 use Rattle.worker_port.proofs.port.Port.sleep.Goals as goal
 
 pub invariant_of-self : goal.invariant_of-self
-invariant_of-self g c = slept_line g.S.Parks.channel g.S.Seatlike.told _ _ c.sleep.ensures.slept (ap (λ (x : Line _). x.state.machine.marked) c.self.view_is ∙ c.requires.unmarked) c.sleep.ensures.awake.1 c.self.invariant
+invariant_of-self g c = record {
+  line = slept_line g.S.Parks.channel g.S.Seatlike.told _ _ c.sleep.ensures.slept (ap (λ (x : Line _). x.state.machine.marked) c.self.view_is ∙ c.requires.unmarked) c.sleep.ensures.awake.1 c.self.invariant.line;
+  came = came_on g.S.Seatlike.tale _ _ c.self.invariant.came c.sleep.ensures.came;
+}
 
 pub returns-clause-past : goal.returns-clause-past
 returns-clause-past g c =

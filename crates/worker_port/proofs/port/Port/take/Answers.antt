@@ -1,10 +1,8 @@
-use Rattle.std.proofs.Common.{◌≡◌, [], ap, is_some, length, refl, sym, ◌∙◌, subst, arith}
+use Rattle.std.proofs.Common.{◌≡◌, ap, is_some, length, sym, ◌∙◌, subst, arith}
 use Rattle.channel_trace.specs.Runs.{got_of}
 use Rattle.page_kept.specs.Items.{item_of}
 use Rattle.ring_machine.specs.Endings.{refused}
-use Rattle.ring_machine.specs.PageCalls.{newest}
 use Rattle.ring_machine.specs.States.{IsPacket}
-use Rattle.ring_machine.specs.Steps.{is_took}
 use Rattle.ring_sleep.proofs.Telling.{tells_on}
 use Rattle.worker_port.specs.declared.found.Found.TheVariants.{Packet as FoundPacket}
 use Rattle.worker_port.specs.Line.{Line, TookOne, line_of, page_words}
@@ -17,6 +15,10 @@ use Rattle.worker_port.proofs.TakeLaws.{a_packet, commit_past, found_none, no_pa
 use Rattle.worker_port.specs.Homes.{TakesHome}
 use Rattle.worker_port.proofs.HomeLaws.{home_same}
 use Rattle.worker_port.proofs.TakeLaws.{refused_list, taken_home, takes_none}
+use Rattle.ring_machine.specs.Steps.{is_busy_at}
+use Rattle.ring_end_history.specs.Calls.{CommitCall, TakeCall}
+use Rattle.ring_end_history.proofs.Joining.{came_call, came_trans}
+use Rattle.worker_port.proofs.CameLaws.{came_on}
 use Rattle.worker_port.proofs.port.Port.take.Goals as goal
 
 pub load_all-requires-clause-room : goal.load_all-requires-clause-room
@@ -40,13 +42,13 @@ commit-requires-clause-clear g c =
     let mid = c.take_in.new.self in
     let n = mid.state in
     let idle = ap (λ (x : Line _). x.state.machine.stage) v ∙ c.requires.ready.idle in
-    let l = c.self.invariant in
+    let l = c.self.invariant.line in
     let whole = c.load_all.new.end in
     let is = a_packet c.found_by-found.result (sym c.has_packet.ensures ∙ c.if-not-has_packet.false) in
     let took = no_refusal (refused c.take_in.result) (sym c.found_by-found.ensures ∙ is) in
     let gets = c.take_in.ensures.took took in
     let pages = took_pages_of old mid (refused c.take_in.result) c.take_in.ensures.takes idle took (c.take_in.ensures.pages idle) in
-    let w = taken_whole g.S.Seatlike.told g.S.Seatlike.memory g.S.Seatlike.same g.met.S.Seatlike.same_refl old.state.pages mid whole gets.words old.state.got gets.list l.pages.clear pages c.load_all.ensures.loads c.load_all.ensures.none in
+    let w = taken_whole g.S.Seatlike.told g.S.Seatlike.tale g.S.Seatlike.same g.met.S.Seatlike.same_refl old.state.pages mid whole gets.words old.state.got gets.list l.pages.clear pages c.load_all.ensures.loads c.load_all.ensures.none in
     w.pages.clear
 
 pub invariant_of-self : goal.invariant_of-self
@@ -58,7 +60,9 @@ invariant_of-self g c =
     let idle = ap (λ (x : Line _). x.state.machine.stage) v ∙ c.requires.ready.idle in
     let not = no_packet (refused c.take_in.result) c.found_by-found.result c.found_by-found.ensures (sym c.has_packet.ensures ∙ c.if-not-has_packet.true) in
     let pages = refused_pages old mid (refused c.take_in.result) not c.take_in.ensures.takes idle (c.take_in.ensures.pages idle) in
-    refused_line old mid (refused c.take_in.result) not c.take_in.ensures.takes idle pages (ap (λ (x : Line _). x.state.machine.marked) v ∙ c.requires.ready.unmarked) c.self.invariant
+    let tale = g.S.Seatlike.tale in
+    let line = refused_line old mid (refused c.take_in.result) not c.take_in.ensures.takes idle pages (ap (λ (x : Line _). x.state.machine.marked) v ∙ c.requires.ready.unmarked) c.self.invariant.line in
+    record { line = line; came = came_on tale old mid c.self.invariant.came (came_call tale g.S.Seatlike.told TakeCall old mid idle (c.take_in.ensures.takes.idle idle).ran line.rests) }
 
 pub invariant_of-self-2 : goal.invariant_of-self-2
 invariant_of-self-2 g c =
@@ -67,15 +71,21 @@ invariant_of-self-2 g c =
     let mid = c.take_in.new.self in
     let n = mid.state in
     let idle = ap (λ (x : Line _). x.state.machine.stage) v ∙ c.requires.ready.idle in
-    let l = c.self.invariant in
+    let l = c.self.invariant.line in
     let whole = c.load_all.new.end in
     let is = a_packet c.found_by-found.result (sym c.has_packet.ensures ∙ c.if-not-has_packet.false) in
     let took = no_refusal (refused c.take_in.result) (sym c.found_by-found.ensures ∙ is) in
     let gets = c.take_in.ensures.took took in
     let pages = took_pages_of old mid (refused c.take_in.result) c.take_in.ensures.takes idle took (c.take_in.ensures.pages idle) in
-    let w = taken_whole g.S.Seatlike.told g.S.Seatlike.memory g.S.Seatlike.same g.met.S.Seatlike.same_refl old.state.pages mid whole gets.words old.state.got gets.list l.pages.clear pages c.load_all.ensures.loads c.load_all.ensures.none in
+    let w = taken_whole g.S.Seatlike.told g.S.Seatlike.tale g.S.Seatlike.same g.met.S.Seatlike.same_refl old.state.pages mid whole gets.words old.state.got gets.list l.pages.clear pages c.load_all.ensures.loads c.load_all.ensures.none in
     let past = c.commit.ensures.past ∙ commit_past c.commit.new.self.state.machine.ended c.commit.new.self.state.machine.saw whole.state.past c.commit.ensures.answer.1 in
-    one_taken old mid whole c.commit.new.self (refused c.take_in.result) c.take_in.ensures.takes gets w past c.commit.ensures.kept l (ap (λ (x : Line _). x.state.machine.marked) v ∙ c.requires.ready.unmarked) c.commit.ensures.after c.commit.ensures.leaves.cells c.items_fit-2.ensures.items c.items_fit-2.ensures.bare
+    let line = one_taken old mid whole c.commit.new.self (refused c.take_in.result) c.take_in.ensures.takes gets w past c.commit.ensures.kept l (ap (λ (x : Line _). x.state.machine.marked) v ∙ c.requires.ready.unmarked) c.commit.ensures.after c.commit.ensures.leaves.cells c.items_fit-2.ensures.items c.items_fit-2.ensures.bare in
+    let tale = g.S.Seatlike.tale in
+    let told = g.S.Seatlike.told in
+    let at = took_idle old mid (refused c.take_in.result) c.take_in.ensures.takes idle took in
+    let took_one = came_call tale told TakeCall old mid idle (c.take_in.ensures.takes.idle idle).ran (ap is_busy_at at) in
+    let gave_back = came_call tale told CommitCall whole c.commit.new.self (ap (λ m. m.stage) c.load_all.ensures.kept.machine ∙ at) c.commit.ensures.ran line.rests in
+    record { line = line; came = came_on tale old c.commit.new.self c.self.invariant.came (came_trans tale old mid c.commit.new.self took_one (came_trans tale mid whole c.commit.new.self c.load_all.ensures.came gave_back)) }
 
 pub returns-then-not-has_packet-clause-stays : goal.returns-then-not-has_packet-clause-stays
 returns-then-not-has_packet-clause-stays g c =
@@ -99,13 +109,13 @@ returns-clause-stays g c =
     let mid = c.take_in.new.self in
     let n = mid.state in
     let idle = ap (λ (x : Line _). x.state.machine.stage) v ∙ c.requires.ready.idle in
-    let l = c.self.invariant in
+    let l = c.self.invariant.line in
     let whole = c.load_all.new.end in
     let is = a_packet c.found_by-found.result (sym c.has_packet.ensures ∙ c.if-not-has_packet.false) in
     let took = no_refusal (refused c.take_in.result) (sym c.found_by-found.ensures ∙ is) in
     let gets = c.take_in.ensures.took took in
     let pages = took_pages_of old mid (refused c.take_in.result) c.take_in.ensures.takes idle took (c.take_in.ensures.pages idle) in
-    let w = taken_whole g.S.Seatlike.told g.S.Seatlike.memory g.S.Seatlike.same g.met.S.Seatlike.same_refl old.state.pages mid whole gets.words old.state.got gets.list l.pages.clear pages c.load_all.ensures.loads c.load_all.ensures.none in
+    let w = taken_whole g.S.Seatlike.told g.S.Seatlike.tale g.S.Seatlike.same g.met.S.Seatlike.same_refl old.state.pages mid whole gets.words old.state.got gets.list l.pages.clear pages c.load_all.ensures.loads c.load_all.ensures.none in
     let past = c.commit.ensures.past ∙ commit_past c.commit.new.self.state.machine.ended c.commit.new.self.state.machine.saw whole.state.past c.commit.ensures.answer.1 in
     let takes = c.take_in.ensures.takes in
     let commit = c.commit.ensures in record {
@@ -120,10 +130,10 @@ returns-clause-stays g c =
     }
 
 pub returns-then-not-has_packet-clause-list : goal.returns-then-not-has_packet-clause-list
-returns-then-not-has_packet-clause-list g c = subst (λ (x : Line _). got_of x.state.past ≡ x.state.got) c.self.view_is (line_got g.T.Protocol.said c.self.inside.end c.self.invariant)
+returns-then-not-has_packet-clause-list g c = subst (λ (x : Line _). got_of x.state.past ≡ x.state.got) c.self.view_is (line_got g.T.Protocol.said c.self.inside.end c.self.invariant.line)
 
 pub returns-clause-list : goal.returns-clause-list
-returns-clause-list g c = subst (λ (x : Line _). got_of x.state.past ≡ x.state.got) c.self.view_is (line_got g.T.Protocol.said c.self.inside.end c.self.invariant)
+returns-clause-list g c = subst (λ (x : Line _). got_of x.state.past ≡ x.state.got) c.self.view_is (line_got g.T.Protocol.said c.self.inside.end c.self.invariant.line)
 
 pub returns-then-not-has_packet-clause-took : goal.returns-then-not-has_packet-clause-took
 returns-then-not-has_packet-clause-took g c =
@@ -170,13 +180,13 @@ returns-clause-took g c =
     let mid = c.take_in.new.self in
     let n = mid.state in
     let idle = ap (λ (x : Line _). x.state.machine.stage) v ∙ c.requires.ready.idle in
-    let l = c.self.invariant in
+    let l = c.self.invariant.line in
     let whole = c.load_all.new.end in
     let is = a_packet c.found_by-found.result (sym c.has_packet.ensures ∙ c.if-not-has_packet.false) in
     let took = no_refusal (refused c.take_in.result) (sym c.found_by-found.ensures ∙ is) in
     let gets = c.take_in.ensures.took took in
     let pages = took_pages_of old mid (refused c.take_in.result) c.take_in.ensures.takes idle took (c.take_in.ensures.pages idle) in
-    let w = taken_whole g.S.Seatlike.told g.S.Seatlike.memory g.S.Seatlike.same g.met.S.Seatlike.same_refl old.state.pages mid whole gets.words old.state.got gets.list l.pages.clear pages c.load_all.ensures.loads c.load_all.ensures.none in
+    let w = taken_whole g.S.Seatlike.told g.S.Seatlike.tale g.S.Seatlike.same g.met.S.Seatlike.same_refl old.state.pages mid whole gets.words old.state.got gets.list l.pages.clear pages c.load_all.ensures.loads c.load_all.ensures.none in
     let past = c.commit.ensures.past ∙ commit_past c.commit.new.self.state.machine.ended c.commit.new.self.state.machine.saw whole.state.past c.commit.ensures.answer.1 in
     let said = g.T.Protocol.said in
     let i = item_of gets.words w.words in
@@ -199,13 +209,13 @@ returns-clause-into g c =
     let mid = c.take_in.new.self in
     let n = mid.state in
     let idle = ap (λ (x : Line _). x.state.machine.stage) v ∙ c.requires.ready.idle in
-    let l = c.self.invariant in
+    let l = c.self.invariant.line in
     let whole = c.load_all.new.end in
     let is = a_packet c.found_by-found.result (sym c.has_packet.ensures ∙ c.if-not-has_packet.false) in
     let took = no_refusal (refused c.take_in.result) (sym c.found_by-found.ensures ∙ is) in
     let gets = c.take_in.ensures.took took in
     let pages = took_pages_of old mid (refused c.take_in.result) c.take_in.ensures.takes idle took (c.take_in.ensures.pages idle) in
-    let w = taken_whole g.S.Seatlike.told g.S.Seatlike.memory g.S.Seatlike.same g.met.S.Seatlike.same_refl old.state.pages mid whole gets.words old.state.got gets.list l.pages.clear pages c.load_all.ensures.loads c.load_all.ensures.none in
+    let w = taken_whole g.S.Seatlike.told g.S.Seatlike.tale g.S.Seatlike.same g.met.S.Seatlike.same_refl old.state.pages mid whole gets.words old.state.got gets.list l.pages.clear pages c.load_all.ensures.loads c.load_all.ensures.none in
     let past = c.commit.ensures.past ∙ commit_past c.commit.new.self.state.machine.ended c.commit.new.self.state.machine.saw whole.state.past c.commit.ensures.answer.1 in
     let said = g.T.Protocol.said in
     let i = said (item_of gets.words w.words) in
@@ -221,8 +231,8 @@ returns-then-not-has_packet-clause-looked g c = λ nothing.
     let v = c.self.view_is in
     let old = c.self.inside.end in
     let idle = ap (λ (x : Line _). x.state.machine.stage) v ∙ c.requires.ready.idle in
-    let none = found_none g.S.Seatlike.told g.S.Seatlike.memory old c.take_in.new.self (refused c.take_in.result) (c.take_in.ensures.takes.idle idle) (sym c.found_by-found.ensures ∙ nothing) in
-    subst (λ (x : Line _). FoundNone g.S.Seatlike.told g.S.Seatlike.memory x.end c.take_in.new.self) v none
+    let none = found_none g.S.Seatlike.told g.S.Seatlike.tale old c.take_in.new.self (refused c.take_in.result) (c.take_in.ensures.takes.idle idle) (sym c.found_by-found.ensures ∙ nothing) in
+    subst (λ (x : Line _). FoundNone g.S.Seatlike.told g.S.Seatlike.tale x.end c.take_in.new.self) v none
 
 pub returns-then-not-has_packet-clause-home : goal.returns-then-not-has_packet-clause-home
 returns-then-not-has_packet-clause-home g c =
@@ -243,14 +253,14 @@ returns-clause-home g c =
     let old = c.self.inside.end in
     let mid = c.take_in.new.self in
     let idle = ap (λ (x : Line _). x.state.machine.stage) v ∙ c.requires.ready.idle in
-    let l = c.self.invariant in
+    let l = c.self.invariant.line in
     let whole = c.load_all.new.end in
     let is = a_packet c.found_by-found.result (sym c.has_packet.ensures ∙ c.if-not-has_packet.false) in
     let took = no_refusal (refused c.take_in.result) (sym c.found_by-found.ensures ∙ is) in
     let gets = c.take_in.ensures.took took in
     let takes = c.take_in.ensures.takes in
     let pages = took_pages_of old mid (refused c.take_in.result) takes idle took (c.take_in.ensures.pages idle) in
-    let w = taken_whole g.S.Seatlike.told g.S.Seatlike.memory g.S.Seatlike.same g.met.S.Seatlike.same_refl old.state.pages mid whole gets.words old.state.got gets.list l.pages.clear pages c.load_all.ensures.loads c.load_all.ensures.none in
+    let w = taken_whole g.S.Seatlike.told g.S.Seatlike.tale g.S.Seatlike.same g.met.S.Seatlike.same_refl old.state.pages mid whole gets.words old.state.got gets.list l.pages.clear pages c.load_all.ensures.loads c.load_all.ensures.none in
     let past = c.commit.ensures.past ∙ commit_past c.commit.new.self.state.machine.ended c.commit.new.self.state.machine.saw whole.state.past c.commit.ensures.answer.1 in
     let said = g.T.Protocol.said in
     subst (λ f. TakesHome f c.args.self.now (line_of said c.commit.new.self)) (sym is)

@@ -1,6 +1,5 @@
-use Rattle.std.proofs.Common.{◌≡◌, ◌+◌, ◌∙◌, ap, arith, sym}
+use Rattle.std.proofs.Common.{◌+◌, ◌∙◌, ap, arith, sym}
 use Rattle.worker_port.specs.Line.{Line, LineState, page_places, page_words}
-use Rattle.worker_port.specs.Rooms.{places_for}
 use Rattle.worker_port.proofs.ItemLaws.{got_new, past_new}
 use Rattle.worker_port.proofs.RoomLaws.{room_new}
 use Rattle.std.proofs.Common.{subst, false}

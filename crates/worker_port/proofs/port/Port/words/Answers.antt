@@ -1,4 +1,4 @@
-use Rattle.std.proofs.Common.{◌≡◌, ◌≤◌, [], List, ℕ, length, refl, sym, ap, ◌∙◌, arith}
+use Rattle.std.proofs.Common.{◌≤◌, List, length, ap, ◌∙◌, arith}
 use Rattle.page_kept.specs.declared.item.Item.{Item}
 use Rattle.worker_port.specs.Line.{Line, words_at}
 use Rattle.worker_port.proofs.ItemLaws.{line_long}
@@ -19,4 +19,4 @@ returns-clause-value g c =
 pub returns-clause-few : goal.returns-clause-few
 returns-clause-few g c =
     let is = c.in-Some.ensures.1 ∙ (lent_at c.got.result.now.list c.got.result.now.lent c.args.i c.in-Some.ensures.0 ∙ ap (λ (is : List Item). words_at is c.args.i) c.got.ensures.items) in
-    omega (arith, ap length is, c.self.invariant.pages.few c.args.i)
+    omega (arith, ap length is, c.self.invariant.line.pages.few c.args.i)

@@ -71,7 +71,7 @@ pub returns-in-Full-clause-full : goal.returns-in-Full-clause-full
 returns-in-Full-clause-full g c =
     let v = c.self.view_is in
     let told = g.S.Seatlike.told in
-    let memory = g.S.Seatlike.memory in
+    let tale = g.S.Seatlike.tale in
     let s = g.T.Protocol.format c.self.inside.protocol in
     let l = c.self.invariant (ap (λ w. w.end.state.machine.marked) v ∙ c.requires.ready.unmarked) in
     let m = subst (λ w. HasMessage (g.T.Protocol.format w.protocol) w) (sym v) c.requires.message in
@@ -80,15 +80,15 @@ returns-in-Full-clause-full g c =
     let value = c.write_ack.ensures.value i (g.T.Protocol.said_packet (item_of c.got.result.now (words_at c.self.inside.port.end.state.pages.got c.self.inside.acked))) is in
     let made = c.packet-packet.ensures.value ∙ ap (λ (x : Item). x.packet) value in
     let e = c.send.new.self in
-    let full : FoundFull told memory c.packet-packet.result.now c.self.inside.port.end e.end = record { words = []; bare = λ _. refl; tried = c.send.ensures.tried; full = c.in-Full.ensures.full refl } in
-    subst (λ w. AckFull told memory s w.end.end e) v (ack_full s (g.T.Protocol.asks c.self.inside.protocol) _ told memory e i c.got.ensures.value is c.in-Full.ensures.past (subst (λ p. FoundFull told memory p c.self.inside.port.end e.end) made full) l.live)
+    let full : FoundFull told tale c.packet-packet.result.now c.self.inside.port.end e.end = record { words = []; bare = λ _. refl; tried = c.send.ensures.tried; full = c.in-Full.ensures.full refl } in
+    subst (λ w. AckFull told tale s w.end.end e) v (ack_full s (g.T.Protocol.asks c.self.inside.protocol) _ told tale e i c.got.ensures.value is c.in-Full.ensures.past (subst (λ p. FoundFull told tale p c.self.inside.port.end e.end) made full) l.live)
 
 pub returns-in-Full-clause-tried : goal.returns-in-Full-clause-tried
 returns-in-Full-clause-tried g c =
     let v = c.self.view_is in
     let l = c.self.invariant (ap (λ w. w.end.state.machine.marked) v ∙ c.requires.ready.unmarked) in
     let told = g.S.Seatlike.told in
-    let memory = g.S.Seatlike.memory in
+    let tale = g.S.Seatlike.tale in
     let s = g.T.Protocol.format c.self.inside.protocol in
     let m = subst (λ w. HasMessage (g.T.Protocol.format w.protocol) w) (sym v) c.requires.message in
     let i = g.T.Protocol.said (item_of c.got.result.now (words_at c.self.inside.port.end.state.pages.got c.self.inside.acked)) in
@@ -96,8 +96,8 @@ returns-in-Full-clause-tried g c =
     let value = c.write_ack.ensures.value i (g.T.Protocol.said_packet (item_of c.got.result.now (words_at c.self.inside.port.end.state.pages.got c.self.inside.acked))) is in
     let made = c.packet-packet.ensures.value ∙ ap (λ (x : Item). x.packet) value in
     let e = c.send.new.self in
-    let full : FoundFull told memory c.packet-packet.result.now c.self.inside.port.end e.end = record { words = []; bare = λ _. refl; tried = c.send.ensures.tried; full = c.in-Full.ensures.full refl } in
-    (i, ap (λ l. slice_get l c.self.inside.acked) c.send.ensures.got.0 ∙ c.got.ensures.value, subst (λ w. FoundFull told memory (s.ack i).packet w.end.end e.end) v (subst (λ p. FoundFull told memory p c.self.inside.port.end e.end) made full))
+    let full : FoundFull told tale c.packet-packet.result.now c.self.inside.port.end e.end = record { words = []; bare = λ _. refl; tried = c.send.ensures.tried; full = c.in-Full.ensures.full refl } in
+    (i, ap (λ l. slice_get l c.self.inside.acked) c.send.ensures.got.0 ∙ c.got.ensures.value, subst (λ w. FoundFull told tale (s.ack i).packet w.end.end e.end) v (subst (λ p. FoundFull told tale p c.self.inside.port.end e.end) made full))
 
 pub write_ack-requires-clause-message : goal.write_ack-requires-clause-message
 write_ack-requires-clause-message g c =

@@ -77,13 +77,13 @@ returns-in-Nothing-clause-turns g c =
 pub returns-in-Nothing-clause-tried : goal.returns-in-Nothing-clause-tried
 returns-in-Nothing-clause-tried g c = λ before looked none held.
     let told = g.S.Seatlike.told in
-    let memory = g.S.Seatlike.memory in
+    let tale = g.S.Seatlike.tale in
     let hold = c.args.hold in
     let old = c.self.inside.port.end in
     let new = c.arm.new.self.end in
-    let rested : FoundNothing told memory (want_by hold) old new = record { armed = subst (λ o. ArmedOnce told memory o old new) c.want_for.ensures c.arm.ensures.once; asleep = c.in-Nothing.ensures.found } in
-    let held' = subst (λ w. HoldTried told memory (g.T.Protocol.format w.protocol) (g.T.Protocol.asks w.protocol) hold looked w) (sym c.self.view_is) held in
-    rests_tried told memory (g.T.Protocol.format c.self.inside.protocol) (g.T.Protocol.asks c.self.inside.protocol) (record {
+    let rested : FoundNothing told tale (want_by hold) old new = record { armed = subst (λ o. ArmedOnce told tale o old new) c.want_for.ensures c.arm.ensures.once; asleep = c.in-Nothing.ensures.found } in
+    let held' = subst (λ w. HoldTried told tale (g.T.Protocol.format w.protocol) (g.T.Protocol.asks w.protocol) hold looked w) (sym c.self.view_is) held in
+    rests_tried told tale (g.T.Protocol.format c.self.inside.protocol) (g.T.Protocol.asks c.self.inside.protocol) (record {
       protocol = c.self.inside.protocol;
       end = c.self.inside.port;
       table = c.self.inside.table;

@@ -1,4 +1,4 @@
-use Rattle.std.proofs.Common.{ℕ, List, ◌≡◌, [], refl, ◌+◌, ◌*◌, ◌<◌, ◌≤◌, count_by, ap, sym, ◌∙◌, length, subst, arith, false, Some, is_some, inr, true}
+use Rattle.std.proofs.Common.{ℕ, List, ◌≡◌, refl, ◌+◌, ◌*◌, ◌<◌, ◌≤◌, count_by, ap, sym, ◌∙◌, length, subst, arith, false, Some, is_some, inr, true}
 use Rattle.std.specs.Prelude.{slice_get}
 use Rattle.std.proofs.lemmas.Option.{slice_get_within}
 use Rattle.worker_port.specs.Owed.{LacksSendOf}
@@ -74,11 +74,11 @@ returns-in-Full-clause-tried g c =
     let is : along c.self.inside.port.end.state.pages c.packet-packet.result.now ≡ c.encode.new.self.lent = along_is (g.T.Protocol.lends c.self.inside.protocol) (length c.self.inside.table) c.self.inside.port.end.state c.encode.new.self c.packet-packet.result.now l.pages c.packet-packet.ensures.value c.encode.ensures.none c.encode.ensures.lent (λ e. ((own e).ask, none_inside _ _ (own e))) in
     let made = sym pk ∙ ap (λ o. ((g.T.Protocol.format c.self.inside.protocol).encode (id_in o) at.0).packet) (sym none) in
     let told = g.S.Seatlike.told in
-    let memory = g.S.Seatlike.memory in
+    let tale = g.S.Seatlike.tale in
     let e = c.send.new.self in
-    let full : FoundFull told memory c.packet-packet.result.now c.self.inside.port.end e.end = record { words = c.page-words.result.now; bare = λ z. nil_by c.page-words.result.now (omega (arith, c.page-words.ensures.most.0, is, none_along c.self.inside.port.end.state.pages c.packet-packet.result.now z)); tried = c.send.ensures.tried; full = c.in-Full.ensures.full refl } in
+    let full : FoundFull told tale c.packet-packet.result.now c.self.inside.port.end e.end = record { words = c.page-words.result.now; bare = λ z. nil_by c.page-words.result.now (omega (arith, c.page-words.ensures.most.0, is, none_along c.self.inside.port.end.state.pages c.packet-packet.result.now z)); tried = c.send.ensures.tried; full = c.in-Full.ensures.full refl } in
     let p = ((g.T.Protocol.format c.self.inside.protocol).encode (id_in c.self.inside.waiting) at.0).packet in
-    (at.0, at.1, subst (λ w. FoundFull told memory p w.end.end e.end) v (subst (λ q. FoundFull told memory q c.self.inside.port.end e.end) made full))
+    (at.0, at.1, subst (λ w. FoundFull told tale p w.end.end e.end) v (subst (λ q. FoundFull told tale q c.self.inside.port.end e.end) made full))
 
 pub returns-in-Some-clause-asked : goal.returns-in-Some-clause-asked
 returns-in-Some-clause-asked g c =

@@ -1,4 +1,4 @@
-use Rattle.std.proofs.Common.{[], ◌++◌, refl, ap, sym, ◌∙◌, arith, None, length, subst}
+use Rattle.std.proofs.Common.{◌++◌, refl, ap, sym, ◌∙◌, arith, None, length, subst}
 use Rattle.std.specs.Prelude.{if◌then◌else◌, ◌==◌}
 use Rattle.page_kept.specs.Items.{item_of}
 use Rattle.channel_protocol.specs.Paged.{item_in}

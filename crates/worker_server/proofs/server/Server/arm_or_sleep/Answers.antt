@@ -61,11 +61,11 @@ returns-in-Nothing-clause-turns g c =
 pub returns-in-Nothing-clause-tried : goal.returns-in-Nothing-clause-tried
 returns-in-Nothing-clause-tried g c = λ before met owed none.
     let told = g.E.Seatlike.told in
-    let memory = g.E.Seatlike.memory in
+    let tale = g.E.Seatlike.tale in
     let v = c.self.view_is in
     let old = c.self.inside.port.end in
     let new = c.arm.new.self.end in
-    let rested : FoundNothing told memory c.need-want.result old new = record { armed = c.arm.ensures.once; asleep = c.in-Nothing.ensures.found } in
-    let owed' = subst (λ w. OwedTried told memory w.responder.owed before met) (sym v) owed in
-    let none' = subst (λ w. FoundNone told memory met w.end.end) (sym v) none in
-    rests_tried told memory c.self.inside.responder.owed c.need-want.result before met old new owed' none' rested
+    let rested : FoundNothing told tale c.need-want.result old new = record { armed = c.arm.ensures.once; asleep = c.in-Nothing.ensures.found } in
+    let owed' = subst (λ w. OwedTried told tale w.responder.owed before met) (sym v) owed in
+    let none' = subst (λ w. FoundNone told tale met w.end.end) (sym v) none in
+    rests_tried told tale c.self.inside.responder.owed c.need-want.result before met old new owed' none' rested

@@ -72,9 +72,9 @@ returns-clause-room g c =
 pub returns-clause-tried : goal.returns-clause-tried
 returns-clause-tried g c = λ before looked none first.
     let told = g.E.Seatlike.told in
-    let memory = g.E.Seatlike.memory in
+    let tale = g.E.Seatlike.tale in
     let full = subst (λ w. MetFull w.responder.owed w.end) (sym c.self.view_is) c.requires.full in
-    let first' = subst (λ w. FirstFull told memory w.responder.owed looked w.end.end) (sym c.self.view_is) first in
+    let first' = subst (λ w. FirstFull told tale w.responder.owed looked w.end.end) (sym c.self.view_is) first in
     tried_gone g.T.Protocol.format g.T.Protocol.keeps g.T.Protocol.besides (record {
       responder = c.self.inside.responder;
       end = c.self.inside.port;
@@ -86,5 +86,5 @@ returns-clause-tried g c = λ before looked none first.
       served = c.self.inside.served;
       seen = c.self.inside.seen;
       want = c.self.inside.want;
-    }) told memory PeerMarked before c.mark.new.self c.rescind_all.new.self c.rescind_all.ensures.same
-    (inl (inr (gone_tried (g.T.Protocol.format c.self.inside.responder.protocol) (g.T.Protocol.keeps c.self.inside.responder.protocol) (g.T.Protocol.besides c.self.inside.responder.protocol) _ told memory _ before looked c.mark.ensures.past c.mark.ensures.lists.0 c.mark.ensures.awake c.mark.ensures.marked (full_still c.self.inside.responder.owed _ _ c.mark.ensures.found full) none first' c.mark.ensures.once c.self.invariant.live)))
+    }) told tale PeerMarked before c.mark.new.self c.rescind_all.new.self c.rescind_all.ensures.same
+    (inl (inr (gone_tried (g.T.Protocol.format c.self.inside.responder.protocol) (g.T.Protocol.keeps c.self.inside.responder.protocol) (g.T.Protocol.besides c.self.inside.responder.protocol) _ told tale _ before looked c.mark.ensures.past c.mark.ensures.lists.0 c.mark.ensures.awake c.mark.ensures.marked (full_still c.self.inside.responder.owed _ _ c.mark.ensures.found full) none first' c.mark.ensures.once c.self.invariant.live)))

@@ -76,7 +76,7 @@ pub returns-clause-tried : goal.returns-clause-tried
 returns-clause-tried g c = λ before.
     let v = c.self.view_is in
     let told = g.E.Seatlike.told in
-    let memory = g.E.Seatlike.memory in
+    let tale = g.E.Seatlike.tale in
     tried_gone g.T.Protocol.format g.T.Protocol.keeps g.T.Protocol.besides (record {
       responder = c.self.inside.responder;
       end = c.self.inside.port;
@@ -88,6 +88,6 @@ returns-clause-tried g c = λ before.
       served = c.self.inside.served;
       seen = c.self.inside.seen;
       want = c.self.inside.want;
-    }) told memory PeerMarked before c.mark.new.self c.rescind_all.new.self c.rescind_all.ensures.same
-    (follows_tried (g.T.Protocol.format c.self.inside.responder.protocol) (g.T.Protocol.keeps c.self.inside.responder.protocol) (g.T.Protocol.besides c.self.inside.responder.protocol) _ told memory before _ c.mark.ensures.past c.mark.ensures.lists.0 c.mark.ensures.awake c.mark.ensures.marked c.mark.ensures.got (ap (λ w. w.responder.owed) v ∙ c.requires.owed)
+    }) told tale PeerMarked before c.mark.new.self c.rescind_all.new.self c.rescind_all.ensures.same
+    (follows_tried (g.T.Protocol.format c.self.inside.responder.protocol) (g.T.Protocol.keeps c.self.inside.responder.protocol) (g.T.Protocol.besides c.self.inside.responder.protocol) _ told tale before _ c.mark.ensures.past c.mark.ensures.lists.0 c.mark.ensures.awake c.mark.ensures.marked c.mark.ensures.got (ap (λ w. w.responder.owed) v ∙ c.requires.owed)
     (subst (λ w. HasServed (g.T.Protocol.format w.responder.protocol) (g.T.Protocol.besides w.responder.protocol) w) (sym v) c.requires.served) c.self.invariant.live)

@@ -244,8 +244,8 @@ returns-in-Full-clause-tried g c = λ _.
     }) o c.first-sheet.ensures.sheets (g.T.Protocol.lends t) (g.T.Protocol.keeps t) (g.T.Protocol.paged t) g.T.Protocol.said_packet g.T.Protocol.said_few le c.first-sheet.ensures.read
     c.self.invariant.live.kept (c.self.invariant.live.own (ap (λ w. w.end.state.machine.marked) c.self.view_is ∙ c.requires.ready.unmarked)) c.self.invariant.live.from c.self.invariant.live.places law.clear law.items law.read law.listed law.got law.told c.self.invariant.pages in
     let told = g.E.Seatlike.told in
-    let memory = g.E.Seatlike.memory in
+    let tale = g.E.Seatlike.tale in
     let owed = c.self.inside.responder.owed in
     let fits = subst (λ (z : List ℕ × List ℕ). CanLay c.self.inside.port.end z.0 z.1) (λ i. (sym c.packet-2.ensures.value i, sym c.page.ensures.value i)) given.can in
-    let first = first_full told memory owed (g.T.Protocol.said (item_on o)) c.packet-2.result.now c.page.result.now c.self.inside.port.end c.send.new.self.end c.first-sheet.ensures.value (g.T.Protocol.said_packet (item_on o) ∙ sym c.packet-2.ensures.value) fits.fits c.send.ensures.tried (c.in-Full.ensures.full refl) in
-    subst (λ w. FirstFull told memory owed w.end.end c.send.new.self.end) c.self.view_is first
+    let first = first_full told tale owed (g.T.Protocol.said (item_on o)) c.packet-2.result.now c.page.result.now c.self.inside.port.end c.send.new.self.end c.first-sheet.ensures.value (g.T.Protocol.said_packet (item_on o) ∙ sym c.packet-2.ensures.value) fits.fits c.send.ensures.tried (c.in-Full.ensures.full refl) in
+    subst (λ w. FirstFull told tale owed w.end.end c.send.new.self.end) c.self.view_is first

@@ -82,7 +82,7 @@ pub returns-clause-tried : goal.returns-clause-tried
 returns-clause-tried g c = λ before.
     let v = c.self.view_is in
     let told = g.E.Seatlike.told in
-    let memory = g.E.Seatlike.memory in
+    let tale = g.E.Seatlike.tale in
     let none = ap (λ w. w.responder.owed) v ∙ c.requires.owed in
     let all = ap (λ w. w.served) v ∙ (c.requires.served ∙ ap (λ w. length w.end.state.got) (sym v)) in
     rw c.marked_by.ensures (tried_gone g.T.Protocol.format g.T.Protocol.keeps g.T.Protocol.besides (record {
@@ -96,6 +96,6 @@ returns-clause-tried g c = λ before.
       served = c.self.inside.served;
       seen = c.self.inside.seen;
       want = c.self.inside.want;
-    }) told memory _ before c.mark.new.self c.rescind_all.new.self c.rescind_all.ensures.same
-    (tried_by (g.T.Protocol.format c.self.inside.responder.protocol) (g.T.Protocol.keeps c.self.inside.responder.protocol) (g.T.Protocol.besides c.self.inside.responder.protocol) _ told memory c.self.inside.seen before
+    }) told tale _ before c.mark.new.self c.rescind_all.new.self c.rescind_all.ensures.same
+    (tried_by (g.T.Protocol.format c.self.inside.responder.protocol) (g.T.Protocol.keeps c.self.inside.responder.protocol) (g.T.Protocol.besides c.self.inside.responder.protocol) _ told tale c.self.inside.seen before
     (marks_answered (g.T.Protocol.format c.self.inside.responder.protocol) (g.T.Protocol.keeps c.self.inside.responder.protocol) (g.T.Protocol.besides c.self.inside.responder.protocol) _ _ c.mark.ensures.past c.mark.ensures.lists.0 c.mark.ensures.awake c.mark.ensures.marked c.mark.ensures.got none all c.self.invariant.live)))

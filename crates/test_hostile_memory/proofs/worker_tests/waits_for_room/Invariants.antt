@@ -1,5 +1,5 @@
 use Rattle.std.proofs.Common.{◌≡◌}
-use Rattle.test_open.proofs.beside_tests.scribble.Given as goal
+use Rattle.test_hostile_memory.proofs.worker_tests.waits_for_room.Given as goal
 
 -- The hand is of a ring of 512 cells
 abbrev pub invariant-loop : goal.invariant-loop

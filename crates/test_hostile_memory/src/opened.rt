@@ -1,7 +1,7 @@
 //! A channel of one page for the tests here.
 ghost use Rattle.std.specs.Prelude.{◌≡◌};
 
-use open_seat::{OpenEnd, OpenMem, Scribbler};
+use hostile_memory::{OpenEnd, OpenMem, Scribbler};
 use ring_core::Room;
 use std::alloc::AllocGlobal;
 use std::process::Abort;

@@ -3,7 +3,7 @@ ghost use Rattle.std.specs.Prelude.{◌≡◌};
 
 use crate::check::check;
 use crate::opened::opened;
-use open_seat::{OpenEnd, Scribbler};
+use hostile_memory::{OpenEnd, Scribbler};
 use ring_core::{Armed, Bad, Place, Ring, Side, TakeRefusal, Why, may_take};
 use std::alloc::AllocGlobal;
 use std::process::Abort;

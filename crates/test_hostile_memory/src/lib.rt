@@ -8,4 +8,8 @@ mod check;
 #[cfg(test)]
 mod opened;
 #[cfg(test)]
+mod told_tests;
+#[cfg(test)]
+mod worker_tests;
+#[cfg(test)]
 mod written_tests;

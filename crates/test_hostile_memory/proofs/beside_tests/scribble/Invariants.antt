@@ -1,0 +1,6 @@
+use Rattle.std.proofs.Common.{◌≡◌}
+use Rattle.test_hostile_memory.proofs.beside_tests.scribble.Given as goal
+
+-- The hand is of a ring of 512 cells
+abbrev pub invariant-loop : goal.invariant-loop
+invariant-loop l = l.hand.cells ≡ 512
