@@ -1,5 +1,4 @@
 pub mod Agreeing
-pub mod Cutting
 pub mod Hearing
 pub mod Sharing
 pub mod Noting

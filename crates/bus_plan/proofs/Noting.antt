@@ -4,7 +4,6 @@ use Rattle.std.specs.Prelude.{◌||◌, if◌then◌else◌}
 use Rattle.std.specs.List.{list_any}
 use Rattle.std.proofs.Math.ListN.{length-set}
 use Rattle.std.proofs.lemmas.List.{get_or-set_same, get_or-set_other, take_more, append-nil}
-use Rattle.std.proofs.lemmas.Grind.{flat_map-append}
 use Rattle.std.proofs.lemmas.Bool.{cases_eq}
 use Rattle.std.proofs.lemmas.Bool.Decides.{nat_tests}
 use Rattle.script_lines.specs.declared.line.Line.{Line}
@@ -14,6 +13,7 @@ use Rattle.script_phases.specs.Says.{said_to, heard_by, is_rescinded, is_shut}
 use Rattle.bus_script.specs.declared.outcome.LineResult.{LineResult}
 use Rattle.bus_script.specs.declared.outcome.LineResult.TheVariants.{Gone as LineGone, Closed as LineClosed}
 use Rattle.bus_model.specs.Run.{ended_as}
+use Rattle.phase_plan.proofs.Hearing.{any_said}
 use Rattle.bus_plan.specs.declared.ending.Ending.{Ending}
 use Rattle.bus_plan.specs.Endings.{AreEnded, EndsOn, left_on, outcome_left}
 
@@ -89,25 +89,13 @@ one_left false false true c = refl
 one_left false false false true = refl
 one_left false false false false = refl
 
-any_append : (f : Says → Bool) (xs ys : List Says) → list_any f (xs ++ ys) ≡ (list_any f xs || list_any f ys)
-any_append f [] ys = refl
-any_append f (x ∷ xs) ys = ap (λ b. f x || b) (any_append f xs ys) ∙ regroup (f x) (list_any f xs) (list_any f ys)
-  where
-    regroup : (a b c : Bool) → (a || (b || c)) ≡ ((a || b) || c)
-    regroup true b c = refl
-    regroup false b c = refl
-
-said_more : (k : ℕ) (front : List Line) (line : Line) → said_to k (front ++ line ∷ []) ≡ said_to k front ++ heard_by k (said line.what)
-said_more k front line = flat_map-append (λ l. heard_by k (said l.what)) front (line ∷ []) ∙ ap (λ (l : List Says). said_to k front ++ l) (append-nil (heard_by k (said line.what)))
-
 ended_more : (k : ℕ) (earlier : List Line) (line : Line) → left_on (list_any is_rescind (heard_by k (said line.what))) (list_any is_close (heard_by k (said line.what))) (ended_as k earlier) ≡ ended_as k (earlier ++ line ∷ [])
 ended_more k earlier line =
-    let gone : (is_rescinded k earlier || list_any is_rescind (heard_by k (said line.what))) ≡ is_rescinded k (earlier ++ line ∷ []) =
-    sym (ap (list_any is_rescind) (said_more k earlier line) ∙ any_append is_rescind (said_to k earlier) (heard_by k (said line.what))) in
-    let shut : (is_shut k earlier || list_any is_close (heard_by k (said line.what))) ≡ is_shut k (earlier ++ line ∷ []) =
-    sym (ap (list_any is_close) (said_more k earlier line) ∙ any_append is_close (said_to k earlier) (heard_by k (said line.what))) in
+    let here : said_to k (line ∷ []) ≡ heard_by k (said line.what) = append-nil (heard_by k (said line.what)) in
+    let more : (f : Says → Bool) → (list_any f (said_to k earlier) || list_any f (heard_by k (said line.what))) ≡ list_any f (said_to k (earlier ++ line ∷ [])) =
+    λ f. ap (λ ss. list_any f (said_to k earlier) || list_any f ss) (sym here) ∙ sym (any_said f k earlier (line ∷ [])) in
     one_left (is_rescinded k earlier) (is_shut k earlier) (list_any is_rescind (heard_by k (said line.what))) (list_any is_close (heard_by k (said line.what)))
-    ∙ (ap (λ b. left b (is_shut k earlier || list_any is_close (heard_by k (said line.what)))) gone ∙ ap (left (is_rescinded k (earlier ++ line ∷ []))) shut)
+    ∙ (ap (λ b. left b (is_shut k earlier || list_any is_close (heard_by k (said line.what)))) (more is_rescind) ∙ ap (left (is_rescinded k (earlier ++ line ∷ []))) (more is_close))
 
 ends_more : (earlier : List Line) (line : Line) (old new : List (Option Ending)) → AreEnded earlier old → EndsOn line.what old new → AreEnded (earlier ++ line ∷ []) new
 ends_more earlier line old new are on k less =

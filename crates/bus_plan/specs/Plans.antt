@@ -1,11 +1,14 @@
 -- The plan of a phase: what the script orders of each channel that it opens.
-use Rattle.std.specs.Prelude.{ℕ, ◌≡◌, ◌+◌, List, [], ◌∷◌, length, Option, if◌then◌else◌}
+use Rattle.std.specs.Prelude.{ℕ, ◌≡◌, ◌+◌, ◌==◌, Bool, true, false, not, List, [], ◌∷◌, All, length, map, slice_index_or, Option}
 use Rattle.script_lines.specs.declared.line.Line.{Line}
 use Rattle.script_lines.specs.declared.line.DeviceSpec.{DeviceSpec}
 use Rattle.script_lines.specs.Parts.{kind_of}
-use Rattle.script_phases.specs.Openings.{Opening, Phase, subs_of, is_opened, subs_from, opened_from}
+use Rattle.script_phases.specs.Openings.{Opening, Phase, subs_of, is_opened, opened_from}
 use Rattle.bus_model.specs.Orders.{Order, order_of}
-use Rattle.bus_plan.specs.Heard.{stop_told}
+use Rattle.phase_plan.specs.Told.{AreDealt, stop_told}
+use Rattle.phase_plan.specs.Opened.{plain}
+use Rattle.phase_plan.specs.declared.device_lines.DeviceLines.{DeviceLines}
+use Rattle.phase_plan.specs.declared.opening.Opening.{Opening as Place}
 use Rattle.bus_plan.specs.Endings.{AreEnded}
 use Rattle.bus_plan.specs.declared.ending.Ending.{Ending}
 use Rattle.bus_plan.specs.declared.opening.ChannelOrder.{ChannelOrder}
@@ -38,13 +41,20 @@ opening_at relid device spec sub = record { relid = relid; device = device; spec
 abbrev pub first_opening : ℕ → DeviceSpec → Opening
 first_opening device spec = opening_at (device + 1) device spec 0
 
--- it, if the phase opens the device
-abbrev pub opening_if : Phase → ℕ → DeviceSpec → List Opening
-opening_if p device spec = if is_opened p.earlier p.part device then first_opening device spec ∷ [] else []
+-- the device of a channel has as many sub-channels as stand at its place
+abbrev pub HasSubs : List ℕ → Opening → Type 0
+HasSubs subs o = subs_of o.spec ≡ slice_index_or subs o.device 0
 
--- and its sub-channels, where this relid is the next one
-abbrev pub subs_if : Phase → ℕ → DeviceSpec → ℕ → List Opening
-subs_if p device spec next = if is_opened p.earlier p.part device then subs_from device spec 1 next (subs_of spec) else []
+-- what is known of the channels of a phase, by what the plan keeps of each channel and of each device
+pub record AreOpened (p : Phase) (os : List Opening) (openings : List Place) (subs : List ℕ) (devices : List DeviceLines) : Type 0 where
+  pub same : map plain os ≡ openings
+  pub subs_are : All (HasSubs subs) os
+  pub dealt : AreDealt p.part devices
+
+-- whether a channel is the first one of its device, or whether it is none
+abbrev pub is_of : Bool → Place → Bool
+is_of true o = o.sub == 0
+is_of false o = not (o.sub == 0)
 
 -- the phase of these lines, of a script that offers these devices, of which earlier phases ended these, where this relid is the next one
 pub record IsPhaseOf (part : List Line) (ended : List (Option Ending)) (specs : List DeviceSpec) (next : ℕ) (p : Phase) : Type 0 where

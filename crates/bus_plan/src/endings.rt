@@ -5,8 +5,8 @@ ghost use Rattle.bus_plan.specs.Heard.{IsBelow, AllBelow};
 ghost use Rattle.bus_plan.specs.Endings.{AreEnded, EndsOn, left_on, outcome_left};
 
 use crate::Ending;
-use crate::heard::{Heard, said};
 use bus_script::{Line, What};
+use phase_plan::{DeviceLine, to_device};
 
 /// Notes that a device is closed, unless it has ended already.
 fn close(ending: &mut Option<Ending>)
@@ -22,11 +22,11 @@ fn end(ended: &mut [Option<Ending>], what: &What)
     requires { IsBelow (length ended.old) what.now }
     ensures { EndsOn what.now ended.old ended.new }
 {
-    match said(what) {
-        Some((device, Heard::Stops(_))) => ended[device as usize] = Some(Ending::Rescinded),
-        Some((device, Heard::Shuts)) => close(&mut ended[device as usize]),
-        Some((_, Heard::Asks(_))) => {}
-        Some((_, Heard::Modifies(_))) => {}
+    match to_device(what) {
+        Some((device, DeviceLine::Rescinds(_))) => ended[device as usize] = Some(Ending::Rescinded),
+        Some((device, DeviceLine::Shuts)) => close(&mut ended[device as usize]),
+        Some((_, DeviceLine::Asks(_))) => {}
+        Some((_, DeviceLine::Modifies(_))) => {}
         None => {}
     }
 }

@@ -1,11 +1,10 @@
 -- The kinds that class ids name.
-use Rattle.std.proofs.Common.{◌≡◌, ◌≢◌, ◌∙◌, ◌<◌, ◌^◌, ℕ, Bool, true, false, List, [], ◌∷◌, drop, take, Some, None, Option, refl, ap, sym, if◌then◌else◌}
+use Rattle.std.proofs.Common.{◌≡◌, ◌≢◌, ◌∙◌, ◌<◌, ◌^◌, ℕ, Bool, true, false, List, drop, Some, None, refl, ap, if◌then◌else◌}
 use Rattle.std.proofs.lemmas.Slice.Eq.{bytes_eq-Decides}
 use Rattle.std.proofs.lemmas.Nat.{from_le_bytes-to_le_bytes_4}
-use Rattle.std.specs.Int.{from_le_bytes, w32}
 use Rattle.std.specs.Str.{bytes_eq}
 use Rattle.contact.specs.declared.kind.Kind.{Kind}
-use Rattle.contact.specs.declared.kind.Kind.TheVariants.{Beat, Down, Disk, Net, Sock}
+use Rattle.contact.specs.declared.kind.Kind.TheVariants.{Beat, Down, Disk, Net, Kvp, Sock}
 use Rattle.contact.specs.Classes.{class_id}
 use Rattle.contact.specs.Services.{service_id}
 use Rattle.control_model.specs.Plan.{HasPort}
@@ -36,7 +35,7 @@ no_device port id none = differ (service_id port) id (λ e. none (ap (drop 4) e)
 
 service_kind : (port : ℕ) → port < 2 ^ 32 → kind_with (service_id port) ≡ Some (Sock port)
 service_kind port small =
-    rw (no_device port (class_id Beat) (λ e. cc), no_device port (class_id Down) (λ e. cc), no_device port (class_id Disk) (λ e. cc), no_device port (class_id Net) (λ e. cc)) (service_is port small)
+    rw (no_device port (class_id Beat) (λ e. cc), no_device port (class_id Down) (λ e. cc), no_device port (class_id Disk) (λ e. cc), no_device port (class_id Net) (λ e. cc), no_device port (class_id Kvp) (λ e. cc)) (service_is port small)
 
 -- a class id names its kind
 pub kind_of_class : (kind : Kind) (id : List ℕ) → HasPort kind → id ≡ class_id kind → kind_with id ≡ Some kind
@@ -44,6 +43,7 @@ kind_of_class Beat id fits e = ap kind_with e
 kind_of_class Down id fits e = ap kind_with e
 kind_of_class Disk id fits e = ap kind_with e
 kind_of_class Net id fits e = ap kind_with e
+kind_of_class Kvp id fits e = ap kind_with e
 kind_of_class (Sock port) id fits e = ap kind_with e ∙ service_kind port fits
 
 -- what is no class id names none
@@ -51,4 +51,4 @@ no_service : (id : List ℕ) → ((kind : Kind) → id ≢ class_id kind) → se
 no_service id none = ap (λ b. if b then Some (Sock (port_with id)) else None) (differ id (service_id (port_with id)) (none (Sock (port_with id))))
 
 pub kind_of_none : (id : List ℕ) → ((kind : Kind) → id ≢ class_id kind) → kind_with id ≡ None
-kind_of_none id none = rw (differ id (class_id Beat) (none Beat), differ id (class_id Down) (none Down), differ id (class_id Disk) (none Disk), differ id (class_id Net) (none Net)) (no_service id none)
+kind_of_none id none = rw (differ id (class_id Beat) (none Beat), differ id (class_id Down) (none Down), differ id (class_id Disk) (none Disk), differ id (class_id Net) (none Net), differ id (class_id Kvp) (none Kvp)) (no_service id none)

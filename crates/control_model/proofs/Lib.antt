@@ -1,8 +1,7 @@
 pub mod PlanLaws
 pub mod VersionLaws
 pub mod KindLaws
-pub mod DealingLaws
-pub mod CuttingLaws
+pub mod NumberingLaws
 pub mod PhaseLaws
 pub mod ScriptLaws
 pub mod SockLaws

@@ -5,14 +5,14 @@ use Rattle.std.proofs.lemmas.List.Elements.{All-nil, All-cons}
 use Rattle.std.proofs.lemmas.List.Sums.{sum_by-cons}
 use Rattle.std.specs.List.{AllByRecursion}
 use Rattle.script_lines.specs.declared.line.DeviceSpec.{DeviceSpec}
-use Rattle.script_lines.specs.declared.line.DeviceSpec.TheVariants.{Beat, Down, Disk, Net}
+use Rattle.script_lines.specs.declared.line.DeviceSpec.TheVariants.{Beat, Down, Disk, Net, Kvp}
 use Rattle.script_lines.specs.Parts.{channels_of}
 use Rattle.script_phases.specs.Openings.{Opening as PhaseOpening, subs_of, subs_from, channels_from, opened_from, others}
 use Rattle.control_model.specs.declared.opening.Opening.{Opening}
 use Rattle.control_model.specs.declared.planning.Fate.{Fate}
 use Rattle.control_model.specs.Plan.{IsOpening, Seated, Rising, Follows, is_later, firsts, first_subs, laters, lists_with, pages_with, Bare, most_channels}
 use Rattle.control_model.specs.Openings.{openings_from, lists_in, pages_in, lists_for, pages_for, has_buffers, vp_at}
-use Rattle.control_model.proofs.DealingLaws.{channels_others, other_one}
+use Rattle.phase_plan.proofs.Channels.{channels_others, other_one}
 use Rattle.control_model.proofs.SubLaws.{by_test, none_by}
 
 -- rings have 1 to 16 data pages
@@ -68,10 +68,7 @@ subs_count device sub relid zero spec = refl
 subs_count device sub relid (suc n) spec = ap (λ k. suc k) (subs_count device (sub + 1) (relid + 1) n spec)
 
 all_of_device : (spec : DeviceSpec) → channels_of spec ≡ 1 + subs_of spec
-all_of_device Beat = refl
-all_of_device Down = refl
-all_of_device (Disk blocks subs) = refl
-all_of_device (Net mac station) = refl
+all_of_device spec = refl
 
 few_if : (device next most : ℕ) (spec : DeviceSpec) (on off : List PhaseOpening) (b : Bool) → length on ≤ most → length off ≤ most → length (if b then channels_from device spec next ++ on else off) ≤ channels_of spec + most
 few_if device next most spec on off true some none =
@@ -214,6 +211,7 @@ bare_channels : (sizes : ℕ → ℕ) (fates : ℕ → Fate) (gpadl page device 
     → Bare (openings_from sizes fates gpadl page (channels_from device spec next ++ on))
 bare_channels sizes fates gpadl page device next Beat on first rest = bare_plain sizes fates gpadl page device next Beat on refl rest
 bare_channels sizes fates gpadl page device next Down on first rest = bare_plain sizes fates gpadl page device next Down on refl rest
+bare_channels sizes fates gpadl page device next Kvp on first rest = bare_plain sizes fates gpadl page device next Kvp on refl rest
 bare_channels sizes fates gpadl page device next (Disk blocks subs) on first rest = bare_plain sizes fates gpadl page device next (Disk blocks subs) on refl rest
 bare_channels sizes fates gpadl page device next (Net mac station) on first rest = ((λ e. first (gpadl + 3) (page + pages_with true (sizes device))), rest (gpadl + 3) (page + pages_with true (sizes device)))
 
@@ -269,14 +267,3 @@ subs_made sizes fates gpadl page [] = refl
 subs_made sizes fates gpadl page (c ∷ cs) =
     let rest = subs_made sizes fates (gpadl + lists_for c) (page + pages_for sizes c) cs in
     keep_one (not (c.sub == 0)) (opening sizes fates gpadl page c) c (laters (openings_from sizes fates (gpadl + lists_for c) (page + pages_for sizes c) cs)) (others cs) refl rest
-
--- sizes that are the same for their devices give the same openings
-pub openings_same : (s t : ℕ → ℕ) (fates : ℕ → Fate) (gpadl page : ℕ) (cs : List PhaseOpening) → AllByRecursion (λ c. s c.device ≡ t c.device) cs → openings_from s fates gpadl page cs ≡ openings_from t fates gpadl page cs
-openings_same s t fates gpadl page [] same = refl
-openings_same s t fates gpadl page (c ∷ cs) same =
-    let O : ℕ → List Opening = λ n. record { relid = c.relid; sub = c.sub; ring_pages = n; gpadl = gpadl; first_page = page; rescinded = (fates c.device).rescinded; vp = vp_at (fates c.device).vp c.sub; dialed = None; buffers = has_buffers c.spec } ∷ openings_from s fates (gpadl + lists_for c) (page + pages_with (has_buffers c.spec) n) cs in
-    ap O same.0 ∙ ap (λ os. opening t fates gpadl page c ∷ os) (openings_same s t fates (gpadl + lists_for c) (page + pages_for t c) cs same.1)
-
-pub pages_same : (s t : ℕ → ℕ) (cs : List PhaseOpening) → AllByRecursion (λ c. s c.device ≡ t c.device) cs → pages_in s cs ≡ pages_in t cs
-pages_same s t [] same = refl
-pages_same s t (c ∷ cs) same = ap (λ n. pages_with (has_buffers c.spec) n + pages_in s cs) same.0 ∙ ap (λ n. pages_for t c + n) (pages_same s t cs same.1)

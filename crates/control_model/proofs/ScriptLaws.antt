@@ -4,20 +4,17 @@ use Rattle.std.proofs.lemmas.List.{length-map, map-append}
 use Rattle.std.proofs.lemmas.List.Elements.{All-nil, All-cons, All-append, filter-append}
 use Rattle.std.proofs.lemmas.Grind.{flat_map-append}
 use Rattle.std.proofs.lemmas.List.Folds.{list_any-append}
-use Rattle.std.proofs.lemmas.List.FromFn.{get_or-map-range_with_len, length-map-range_with_len}
 use Rattle.std.proofs.lemmas.Bool.Decides.{nat_tests}
 use Rattle.std.specs.List.{flat_map, list_any, onto_first, range_with_len, AllByRecursion}
-use Rattle.contact.specs.declared.kind.Kind.{Kind}
 use Rattle.contact.specs.declared.kind.DeviceKind.{DeviceKind}
-use Rattle.contact.specs.declared.kind.DeviceKind.TheVariants.{Beat as BeatDevice, Down as DownDevice, Disk as DiskDevice, Net as NetDevice}
+use Rattle.contact.specs.declared.kind.DeviceKind.TheVariants.{Beat as BeatDevice, Down as DownDevice, Disk as DiskDevice, Net as NetDevice, Kvp as KvpDevice}
 use Rattle.contact.specs.Classes.{offered_kind}
-use Rattle.contact.specs.declared.version.Version.{Version}
 use Rattle.contact.specs.Versions.{IsVersion}
 use Rattle.script_lines.specs.declared.line.Line.{Line}
 use Rattle.script_lines.specs.declared.line.What.{What}
 use Rattle.script_lines.specs.declared.line.What.TheVariants.{Contact as IsContact, Offer as IsOffer, Bad as IsBad, RingSize as IsRingSize, Window as IsWindow, Ask as IsAsk, Rescind as IsRescind, Shut as IsShut, Modify as IsModify, Phase as IsPhase}
 use Rattle.script_lines.specs.declared.line.DeviceSpec.{DeviceSpec}
-use Rattle.script_lines.specs.declared.line.DeviceSpec.TheVariants.{Beat, Down, Disk, Net}
+use Rattle.script_lines.specs.declared.line.DeviceSpec.TheVariants.{Beat, Down, Disk, Net, Kvp}
 use Rattle.script_lines.specs.Lines.{is_rescind, said}
 use Rattle.script_lines.specs.Parts.{parts, ends_part, offered, offered_by, kind_of, channels_of, ring_pages_of, pages_by}
 use Rattle.script_lines.specs.WellFormed.{IsDevice, IsRight, AllRight, IsScript}
@@ -25,15 +22,13 @@ use Rattle.script_phases.specs.Says.{heard_by, said_to, is_rescinded, is_shut}
 use Rattle.script_phases.specs.Openings.{Opening as PhaseOpening, Phase, is_ended, is_opened, subs_of, opened_from, others, phases as phases_of, phases_from}
 use Rattle.script_phases.specs.Laws.{later_channels}
 use Rattle.script_phases.proofs.Following.{next_relids_lem}
-use Rattle.control_model.specs.declared.planning.Served.{Served}
 use Rattle.control_model.specs.declared.planning.Fate.{Fate}
 use Rattle.control_model.specs.declared.opening.Opening.{Opening}
-use Rattle.control_model.specs.Dealing.{served_of, size_in, no_device, HasSizes}
-use Rattle.control_model.specs.Plan.{BusPlan, IsPlan, IsOpening, Rising, Follows, OpensAgain, RescindsEnd, is_sub, is_later, firsts as firsts_of, laters, HasPort, Seated, Bare, all_openings, first_gpadl, most_channels}
+use Rattle.control_model.specs.Plan.{IsPlan, IsOpening, Rising, Follows, OpensAgain, RescindsEnd, is_sub, is_later, firsts as firsts_of, laters, HasPort, Seated, Bare, all_openings, first_gpadl, most_channels}
 use Rattle.script_phases.specs.Agreed.{guest_in, host_in, guest_by, host_by, agreed_in}
 use Rattle.control_model.specs.Openings.{plan_of, openings_from, lists_in, pages_in, numbered, fate_of}
 use Rattle.control_model.proofs.SubLaws.{by_test, none_by, some_by}
-use Rattle.control_model.proofs.OpenedLaws.{IsSize, IsChannel, all_so, channels_are, channels_few, others_few, named, opening, many_from, each_from, fits_from, pages_few, lists_few_in, follow_from, offered_from, seated_from, bare_from, rising_from, subs_made, openings_same, pages_same}
+use Rattle.control_model.proofs.OpenedLaws.{IsSize, IsChannel, all_so, channels_are, channels_few, others_few, named, opening, many_from, each_from, fits_from, pages_few, lists_few_in, follow_from, offered_from, seated_from, bare_from, rising_from, subs_made}
 
 guest_right : (kinds : List DeviceSpec) (what : What) → IsRight kinds what → IsVersion (guest_by what).0
 guest_right kinds (IsContact guest host) right = right.0
@@ -233,7 +228,7 @@ cut_count x s true n few = (omega arith, omega (arith, few))
 cut_count x [] false n few = (omega arith, omega arith)
 cut_count x (part ∷ rest) false n few = (omega arith, omega (arith, few))
 
-parts_count : (lines : List Line) → (1 ≤ length (parts lines)) × (length (parts lines) ≤ length lines + 1)
+pub parts_count : (lines : List Line) → (1 ≤ length (parts lines)) × (length (parts lines) ≤ length lines + 1)
 parts_count [] = (omega arith, omega arith)
 parts_count (x ∷ lines) =
     let both = cut_count x (parts lines) (ends_part x) (length lines) (parts_count lines).1 in
@@ -259,6 +254,7 @@ no_port BeatDevice = tt
 no_port DownDevice = tt
 no_port DiskDevice = tt
 no_port NetDevice = tt
+no_port KvpDevice = tt
 
 no_ports : (specs : List DeviceSpec) → All HasPort (map (λ (spec : DeviceSpec). offered_kind (kind_of spec)) specs)
 no_ports [] = All-nil HasPort
@@ -291,57 +287,13 @@ plan_is lines script =
       ends = phases.ends;
     }
 
--- sizes that are the same for all devices give the same openings
-numbered_same : (s t : ℕ → ℕ) (v : ℕ) (specs : List DeviceSpec) (number next gpadl page : ℕ) (earlier : List Line) (ps : List (List Line)) → ((d : ℕ) → d < length specs → s d ≡ t d)
-    → numbered s gpadl page (phases_from v specs number next earlier ps) ≡ numbered t gpadl page (phases_from v specs number next earlier ps)
-numbered_same s t v specs number next gpadl page earlier [] same = refl
-numbered_same s t v specs number next gpadl page earlier (part ∷ ps) same =
-    let count = length specs in
-    let p = is_opened earlier part in
-    let cs = opened_from p 0 next specs in
-    let relid = next + length (others cs) in
-    let each = all_so (IsChannel p count next relid) (λ c. s c.device ≡ t c.device) (λ c is. same c.device is.below) cs (channels_are p count next relid 0 next specs (omega arith) (omega arith) (omega arith)) in
-    let fates : ℕ → Fate = λ device. fate_of device part in
-    let here : openings_from s fates gpadl page cs ≡ openings_from t fates gpadl page cs = openings_same s t fates gpadl page cs each in
-    let pages : pages_in s cs ≡ pages_in t cs = pages_same s t cs each in
-    let rest = phases_from v specs (number + 1) relid (earlier ++ part) ps in
-    ap (λ os. os ∷ numbered s (gpadl + lists_in cs) (page + pages_in s cs) rest) here
-    ∙ (ap (λ k. openings_from t fates gpadl page cs ∷ numbered s (gpadl + lists_in cs) (page + k) rest) pages
-    ∙ ap (λ l. openings_from t fates gpadl page cs ∷ l) (numbered_same s t v specs (number + 1) relid (gpadl + lists_in cs) (page + pages_in t cs) (earlier ++ part) ps same))
-
--- the table of devices
-pub table_item : (lines : List Line) (devices : List Served) (count d : ℕ) (e : Served) → devices ≡ map (served_of lines) (range_with_len 0 count) → d < count → get_or devices d e ≡ served_of lines d
-table_item lines devices count d e table below = ap (λ (ds : List Served). get_or ds d e) table ∙ get_or-map-range_with_len (served_of lines) 0 count d d e below (omega arith)
-
-pub table_length : (lines : List Line) (devices : List Served) (count : ℕ) → devices ≡ map (served_of lines) (range_with_len 0 count) → length devices ≡ count
-table_length lines devices count table = ap length table ∙ length-map-range_with_len (served_of lines) 0 count
-
-pub table_sizes : (lines : List Line) (devices : List Served) (count : ℕ) → IsScript lines → devices ≡ map (served_of lines) (range_with_len 0 count) → HasSizes devices
-table_sizes lines devices count script table k e below =
-    let item = table_item lines devices count k e table (let n = table_length lines devices count table in omega (arith, n, below)) in
-    let P : Served → Type 0 = λ d. (1 ≤ d.ring_pages) × (d.ring_pages ≤ 16) in
-    subst P (sym item) (size_of (offered lines) k lines script.right)
-
-phases_same : (lines : List Line) (devices : List Served) (count : ℕ) → IsScript lines → devices ≡ map (served_of lines) (range_with_len 0 count) → count ≡ length (offered lines)
-    → numbered (size_in devices) first_gpadl 0 (phases_of lines) ≡ (plan_of lines).phases
-phases_same lines devices count script table is =
-    numbered_same (size_in devices) (λ d. ring_pages_of d lines) (agreed_in lines) (offered lines) 0 (length (offered lines) + 1) first_gpadl 0 [] (parts lines)
-    (λ d below. ap (λ (s : Served). s.ring_pages) (table_item lines devices count d no_device table (omega (arith, is, below))))
-
--- the parts of a plan make it
-pub plan_made : (lines : List Line) (guest host : Version) (kinds : List Kind) (phases : List (List Opening)) (devices : List Served) (count : ℕ)
-    → IsScript lines → guest ≡ guest_in lines → host ≡ host_in lines → kinds ≡ map (λ (spec : DeviceSpec). offered_kind (kind_of spec)) (offered lines) → phases ≡ numbered (size_in devices) first_gpadl 0 (phases_of lines)
-    → devices ≡ map (served_of lines) (range_with_len 0 count) → count ≡ length kinds → (let plan : BusPlan = record { guest = guest; host = host; kinds = kinds; phases = phases } in plan) ≡ plan_of lines
-plan_made lines guest host kinds phases devices count script g h k p table is =
-    let all : phases ≡ (plan_of lines).phases = p ∙ phases_same lines devices count script table (is ∙ ap length k ∙ length-map (offered lines) (λ (spec : DeviceSpec). offered_kind (kind_of spec))) in
-    (λ i. record { guest = g i; host = h i; kinds = k i; phases = all i })
-
 -- a disk has at most 3 sub-channels
 subs_right : (spec : DeviceSpec) → IsDevice spec → subs_of spec ≤ 3
 subs_right Beat is = omega arith
 subs_right Down is = omega arith
 subs_right (Disk blocks subs) is = is.2
 subs_right (Net mac station) is = omega arith
+subs_right Kvp is = omega arith
 
 subs_offered : (kinds : List DeviceSpec) (what : What) → IsRight kinds what → All (λ spec. subs_of spec ≤ 3) (offered_by what)
 subs_offered kinds (IsContact guest host) right = All-nil (λ spec. subs_of spec ≤ 3)

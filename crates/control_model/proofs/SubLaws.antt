@@ -6,7 +6,7 @@ use Rattle.std.proofs.lemmas.Bool.Decides.{nat_tests}
 use Rattle.std.specs.List.{position, position_or_len}
 use Rattle.control_model.specs.declared.opening.Opening.{Opening}
 use Rattle.control_model.specs.Plan.{is_sub, is_of_sub, first_subs, subs_next, behind_subs, in_closing_order, Seated}
-use Rattle.control_model.specs.Dealing.{sub_at, is_first_at, closing_place}
+use Rattle.control_model.specs.Places.{sub_at, is_first_at, closing_place}
 
 -- the place of the first one that is no sub-channel
 abbrev is_first : Opening → Bool

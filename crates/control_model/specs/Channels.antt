@@ -1,5 +1,5 @@
 -- The channels of one side, and what the tables say of versions and classes.
-use Rattle.std.specs.Prelude.{ℕ, ◌-◌, ◌==◌, Bool, true, false, ◌&&◌, List, [], ◌∷◌, ◌++◌, slice_get, slice_set, take, nat_le, nat_lt, Option, Some, None, Result, Ok, Err, if◌then◌else◌}
+use Rattle.std.specs.Prelude.{ℕ, ◌-◌, ◌==◌, Bool, false, ◌&&◌, List, [], ◌∷◌, ◌++◌, slice_get, slice_set, take, nat_le, nat_lt, Option, Some, None, Result, Ok, Err, if◌then◌else◌}
 use Rattle.std.specs.List.{list_any, position}
 use Rattle.std.specs.Str.{bytes_eq}
 use Rattle.std.specs.Int.{from_le_bytes, w32}
@@ -8,7 +8,7 @@ use Rattle.contact.specs.Classes.{class_id}
 use Rattle.contact.specs.Services.{service_id}
 use Rattle.contact.specs.declared.version.Version.{Version}
 use Rattle.contact.specs.declared.kind.Kind.{Kind}
-use Rattle.contact.specs.declared.kind.Kind.TheVariants.{Beat, Down, Disk, Net, Sock}
+use Rattle.contact.specs.declared.kind.Kind.TheVariants.{Beat, Down, Disk, Net, Kvp, Sock}
 use Rattle.chan_state.specs.declared.state.State.{State}
 use Rattle.chan_state.specs.declared.event.Event.{Event}
 use Rattle.chan_state.specs.declared.event.Event.TheVariants.{WantModify}
@@ -47,7 +47,8 @@ kind_with id =
     if bytes_eq id (class_id Beat) then Some Beat else
     if bytes_eq id (class_id Down) then Some Down else
     if bytes_eq id (class_id Disk) then Some Disk else
-    if bytes_eq id (class_id Net) then Some Net else service_with id
+    if bytes_eq id (class_id Net) then Some Net else
+    if bytes_eq id (class_id Kvp) then Some Kvp else service_with id
 
 -- two kinds are the same: they have one class id
 abbrev pub same_kind : Kind → Kind → Bool

@@ -1,5 +1,5 @@
 -- Where a host stands, by its part and what it waits for: its channels and its page lists, and what it has still to say and to hear.
-use Rattle.std.specs.Prelude.{◌≡◌, ℕ, suc, ◌<◌, ◌==◌, not, true, false, is_some, List, [], ◌∷◌, ◌++◌, length, map, drop, filter, Option, Some, None}
+use Rattle.std.specs.Prelude.{◌≡◌, ℕ, suc, ◌<◌, not, true, false, is_some, List, [], ◌∷◌, ◌++◌, length, map, drop, filter, Option, Some, None}
 use Rattle.std.specs.List.{flat_map, list_any}
 use Rattle.contact.specs.declared.version.Version.{Version}
 use Rattle.contact.specs.declared.part.Part.{Part}

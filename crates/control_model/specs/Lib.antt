@@ -6,7 +6,8 @@ pub mod Guest
 pub mod Host
 pub mod Openings
 pub mod Sock
-pub mod Dealing
+pub mod Numbering
+pub mod Places
 pub mod Said
 pub mod Stand
 pub mod GuestAt

@@ -3,12 +3,12 @@ ghost use Rattle.std.specs.Prelude.{◌≡◌, ◌+◌, ◌^◌, ◌<◌, ◌≤
 ghost use Rattle.std.specs.List.{position};
 ghost use Rattle.contact.specs.Versions.{IsVersion};
 ghost use Rattle.control_model.specs.Plan.{phase_of, is_buffer, is_buffer_in, openings_in, opening_at, closing_at, opening_in, first_subs, subs_next, subs_behind, movers, movers_in, part_after, IsOpening, IsPlan, Seated};
-ghost use Rattle.control_model.specs.Dealing.{is_first_at, closing_place};
+ghost use Rattle.control_model.specs.Places.{is_first_at, closing_place};
 ghost use Rattle.control_model.specs.Openings.{plan_of};
 ghost use Rattle.control_model.specs.Sock.{sock_plan};
 
 use crate::Opening;
-use crate::planning::{FIRST_GPADL, HIGHEST, kinds, phases, specs, table_of, versions};
+use crate::planning::{FIRST_GPADL, HIGHEST, kinds, phases, specs, versions};
 use bus_script::Script;
 use contact::{Kind, Part, Version};
 use std::alloc::{AllocError, Global};
@@ -41,10 +41,9 @@ impl ControlPlan {
     {
         let lines = script.lines();
         let (guest, host) = versions(lines);
-        let kinds = kinds(alloc, lines)?;
-        let devices = table_of(alloc, lines, kinds.len() as u32)?;
         let specs = specs(alloc, lines)?;
-        let phases = phases(alloc, lines, specs.as_slice(), devices.as_slice())?;
+        let kinds = kinds(alloc, specs.as_slice())?;
+        let phases = phases(alloc, lines, specs.as_slice())?;
         Ok(ControlPlan {
             guest,
             host,

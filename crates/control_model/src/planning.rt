@@ -1,19 +1,26 @@
 //! The plan of a script.
-ghost use Rattle.std.specs.Prelude.{◌≡◌, ◌+◌, ◌*◌, ◌^◌, ◌<◌, ◌≤◌, All, [], ◌∷◌, ◌++◌, ℕ, length, map, take, slice_range, None, IfOk, OnOk};
-ghost use Rattle.std.specs.Option.{option_to_list};
-ghost use Rattle.std.specs.List.{list_any, position, range_with_len};
+ghost use Rattle.std.specs.Prelude.{◌≡◌, ◌+◌, ◌*◌, ◌^◌, ◌<◌, ◌≤◌, All, ◌∷◌, [], ◌++◌, ℕ, List, length, map, replicate, false, None, IfOk, OnOk};
+ghost use Rattle.std.specs.List.{range_with_len};
 ghost use Rattle.contact.specs.Classes.{offered_kind};
-ghost use Rattle.script_lines.specs.Lines.{is_phase};
-ghost use Rattle.script_lines.specs.Parts.{offered_by, offered, kind_of, ring_pages_of, rescinds, shuts};
-ghost use Rattle.script_phases.specs.Openings.{phases, subs_of, opened_from, others};
-ghost use Rattle.control_model.specs.Plan.{first_gpadl, lists_with, pages_with};
+ghost use Rattle.script_lines.specs.declared.line.Line.{Line as OneLine};
+ghost use Rattle.script_lines.specs.Parts.{offered, kind_of, ring_pages_of};
+ghost use Rattle.script_lines.specs.WellFormed.{IsScript};
+ghost use Rattle.script_phases.specs.Says.{said_to};
+ghost use Rattle.script_phases.specs.Openings.{Opening as OneOpening, subs_of};
 ghost use Rattle.script_phases.specs.Agreed.{guest_in, host_in};
-ghost use Rattle.control_model.specs.Openings.{numbered, openings_from, lists_in, pages_in, vp_at, has_buffers};
-ghost use Rattle.control_model.specs.Dealing.{served_of, speaks_to, channels_if, opens_one, ends, ended_before, rescinded_in, vp_in, fate_in, opens, size_in, HasSizes, Dealt, rest_of};
+ghost use Rattle.phase_plan.specs.Told.{IsTold};
+ghost use Rattle.phase_plan.specs.Opened.{IsOfDevice};
+ghost use Rattle.control_model.specs.Plan.{lists_with, pages_with};
+ghost use Rattle.control_model.specs.Openings.{plan_of, fate_of, vp_at, has_buffers};
+ghost use Rattle.control_model.specs.Numbering.{AreChannels, Numbered};
 
 use crate::Opening;
 use bus_script::{DeviceSpec, Line, What};
-use contact::{DeviceKind, Kind, Version, offered_kind};
+use contact::{Kind, Version, offered_kind};
+use phase_plan::{
+    DeviceLines, Opening as PhaseOpening, deal_lines, end_devices, part_at, phase_openings,
+};
+use script_lines::shape_of;
 use std::alloc::{AllocError, Global};
 
 // The highest version of both ends where a script says none, 5.2.
@@ -35,19 +42,6 @@ pub fn versions(lines: &[Line]) -> (Version, Version)
     (HIGHEST, HIGHEST)
 }
 
-/// The kinds of the devices, in order of offer.
-pub fn kinds(alloc: Global, lines: &[Line]) -> Result<Vec<Kind>, AllocError>
-    ensures { IfOk result (λ kinds. kinds.items ≡ map (λ spec. offered_kind (kind_of spec)) (offered lines.now)) }
-{
-    let mut kinds = Vec::new(alloc);
-    for line in lines {
-        if let Some(kind) = kind_offered(&line.what) {
-            kinds.push(kind)?;
-        }
-    }
-    Ok(kinds)
-}
-
 /// What the devices are, in order of offer.
 pub fn specs(alloc: Global, lines: &[Line]) -> Result<Vec<DeviceSpec>, AllocError>
     ensures { IfOk result (λ specs. specs.items ≡ offered lines.now) }
@@ -61,49 +55,39 @@ pub fn specs(alloc: Global, lines: &[Line]) -> Result<Vec<DeviceSpec>, AllocErro
     Ok(specs)
 }
 
-// The kind of device that a line offers.
-fn kind_offered(what: &What) -> Option<Kind>
-    ensures { option_to_list result ≡ map (λ spec. offered_kind (kind_of spec)) (offered_by what.now) }
+/// Their kinds.
+pub fn kinds(alloc: Global, specs: &[DeviceSpec]) -> Result<Vec<Kind>, AllocError>
+    ensures { IfOk result (λ kinds. kinds.items ≡ map (λ spec. offered_kind (kind_of spec)) specs.now) }
 {
-    match what {
-        What::Offer { device, .. } => Some(offered_kind(kind_of(*device))),
-        _ => None,
+    let mut kinds = Vec::new(alloc);
+    for spec in specs {
+        kinds.push(offered_kind(shape_of(*spec).kind))?;
     }
+    Ok(kinds)
 }
 
-// The kind of a device.
-fn kind_of(device: DeviceSpec) -> DeviceKind
-    ensures { result ≡ kind_of device }
+// How many channels each device has beside its first one.
+fn all_subs(alloc: Global, specs: &[DeviceSpec]) -> Result<Vec<u32>, AllocError>
+    requires { All (λ spec. subs_of spec ≤ 3) specs.now }
+    ensures subs { IfOk result (λ subs. subs.items ≡ map subs_of specs.now) }
+    ensures most { IfOk result (λ subs. All (λ n. n ≤ 3) subs.items) }
 {
-    match device {
-        DeviceSpec::Beat => DeviceKind::Beat,
-        DeviceSpec::Down => DeviceKind::Down,
-        DeviceSpec::Disk { .. } => DeviceKind::Disk,
-        DeviceSpec::Net { .. } => DeviceKind::Net,
+    let mut subs = Vec::new(alloc);
+    for spec in specs {
+        subs.push(shape_of(*spec).subs)?;
     }
+    Ok(subs)
 }
 
-// What the lines say of a device for all phases.
-#[derive(Clone, Copy)]
-pub struct Served {
-    // The data pages of each of its rings.
-    pub ring_pages: u32,
-    // The place of the first line that rescinds or closes it, if one does.
-    pub end: Option<usize>,
-}
-
-/// What the lines say of each device.
-pub fn table_of(alloc: Global, lines: &[Line], count: u32) -> Result<Vec<Served>, AllocError>
-    ensures { IfOk result (λ devices. devices.items ≡ map (served_of lines.now) (range_with_len 0 count)) }
+// The data pages of the rings of so many devices.
+fn all_sizes(alloc: Global, lines: &[Line], count: u32) -> Result<Vec<u32>, AllocError>
+    ensures { IfOk result (λ sizes. sizes.items ≡ map (λ device. ring_pages_of device lines.now) (range_with_len 0 count)) }
 {
-    let mut devices = Vec::with_capacity(alloc, count as usize)?;
+    let mut sizes = Vec::with_capacity(alloc, count as usize)?;
     for device in 0..count {
-        devices.push_reserved(Served {
-            ring_pages: ring_pages(lines, device),
-            end: first_end(lines, device),
-        });
+        sizes.push_reserved(ring_pages(lines, device));
     }
-    Ok(devices)
+    Ok(sizes)
 }
 
 // The data pages of each ring of a device: those that its line says, or 1.
@@ -120,112 +104,6 @@ fn ring_pages(lines: &[Line], device: u32) -> u32
     1
 }
 
-// The place of the first line that ends a device for all later phases.
-fn first_end(lines: &[Line], device: u32) -> Option<usize>
-    ensures { result ≡ position (λ l. ends device l.what) lines.now }
-{
-    lines.iter().position(|l| ends(&l.what, device))
-}
-
-// Whether a line ends a device for all later phases: rescinds it, or closes it.
-fn ends(what: &What, device: u32) -> bool
-    ensures { result ≡ ends device what.now }
-{
-    match what {
-        What::Rescind { device: d, .. } => *d == device,
-        What::Shut { device: d } => *d == device,
-        _ => false,
-    }
-}
-
-// Whether a line rescinds a device.
-fn rescinds(what: &What, device: u32) -> bool
-    ensures { result ≡ rescinds device what.now }
-{
-    match what {
-        What::Rescind { device: d, .. } => *d == device,
-        _ => false,
-    }
-}
-
-// Whether a line speaks to a device: asks it, rescinds it, closes it, or moves it.
-fn speaks_to(what: &What, device: u32) -> bool
-    ensures { result ≡ speaks_to device what.now }
-{
-    match what {
-        What::Ask { device: d, .. } => *d == device,
-        What::Rescind { device: d, .. } => *d == device,
-        What::Shut { device: d } => *d == device,
-        What::Modify { device: d, .. } => *d == device,
-        _ => false,
-    }
-}
-
-// Whether a device was ended by a line before this place.
-fn ended_before(end: Option<usize>, start: usize) -> bool
-    ensures { result ≡ ended_before end start }
-{
-    match end {
-        Some(place) => place < start,
-        None => false,
-    }
-}
-
-/// Whether a line begins the next phase.
-pub fn is_phase(what: &What) -> bool
-    ensures { result ≡ is_phase what.now }
-{
-    matches!(what, What::Phase)
-}
-
-// The end of the phase whose lines begin at a place: the next line that begins a phase, or the end.
-fn part_end(lines: &[Line], start: usize) -> usize
-    requires { start ≤ length lines.now }
-    ensures within { (start ≤ result) × (result ≤ length lines.now) }
-    ensures cut { rest_of lines.now start ≡ slice_range lines.now start result ∷ rest_of lines.now (result + 1) }
-    ensures end { (device : ℕ) → list_any (λ l. ends device l.what) (take (result + 1) lines.now) ≡ list_any (λ l. ends device l.what) (take result lines.now) }
-{
-    for i in start..lines.len() {
-        if is_phase(&lines[i].what) {
-            return i;
-        }
-    }
-    lines.len()
-}
-
-/// The openings of each phase.
-pub fn phases(
-    alloc: Global,
-    lines: &[Line],
-    specs: &[DeviceSpec],
-    devices: &[Served],
-) -> Result<Vec<Vec<Opening>>, AllocError>
-    requires few { length devices.now ≤ 16 }
-    requires specs { specs.now ≡ offered lines.now }
-    requires all { length devices.now ≡ length specs.now }
-    requires subs { All (λ spec. subs_of spec ≤ 3) specs.now }
-    requires sizes { HasSizes devices.now }
-    requires table { devices.now ≡ map (served_of lines.now) (range_with_len 0 (length devices.now)) }
-    requires short { length lines.now ≤ 20000 }
-    ensures { IfOk result (λ made. map (λ phase. phase.items) made.items ≡ numbered (size_in devices.now) first_gpadl 0 (phases lines.now)) }
-{
-    let mut phases = Vec::new(alloc);
-    let mut next = Next {
-        gpadl: FIRST_GPADL,
-        page: 0,
-        relid: devices.len() as u32 + 1,
-    };
-    let mut start = 0;
-    while start <= lines.len() {
-        let end = part_end(lines, start);
-        let part = &lines[start..end];
-        let openings = openings(alloc, part, start, specs, devices, &mut next)?;
-        phases.push(openings)?;
-        start = end + 1;
-    }
-    Ok(phases)
-}
-
 /// What the lines of a phase do to a device.
 #[derive(Clone, Copy)]
 pub struct Fate {
@@ -235,82 +113,136 @@ pub struct Fate {
     pub vp: Option<u32>,
 }
 
-/// The next handle, the next page number, and the next relid of a sub-channel.
+// What they do to this one.
+fn fate_of(lines: &DeviceLines<'_>) -> Fate
+    ensures { (device : ℕ) (part : List OneLine) → IsTold (said_to device part) lines.now → result ≡ fate_of device part }
+{
+    Fate {
+        rescinded: lines.stop.is_some(),
+        vp: lines.vp,
+    }
+}
+
+/// The next handle and the next page number.
 #[derive(Clone, Copy)]
 pub struct Next {
     pub gpadl: u32,
     pub page: u64,
-    pub relid: u32,
 }
 
-/// The openings of a phase: its lines begin at a place of the script.
-pub fn openings(
+/// The openings of each phase.
+pub fn phases(
     alloc: Global,
-    part: &[Line],
-    start: usize,
+    lines: &[Line],
     specs: &[DeviceSpec],
-    devices: &[Served],
+) -> Result<Vec<Vec<Opening>>, AllocError>
+    requires script { IsScript lines.now }
+    requires specs { specs.now ≡ offered lines.now }
+    ensures { IfOk result (λ made. map (λ phase. phase.items) made.items ≡ (plan_of lines.now).phases) }
+{
+    let subs = all_subs(alloc, specs)?;
+    let sizes = all_sizes(alloc, lines, specs.len() as u32)?;
+    let mut ended = none_ended(alloc, specs.len())?;
+    let mut next = Next {
+        gpadl: FIRST_GPADL,
+        page: 0,
+    };
+    let mut relid = specs.len() as u32 + 1;
+    let mut phases = Vec::new(alloc);
+    let mut left = Some(0);
+    while let Some(at) = left {
+        let (part, behind) = part_at(lines, at);
+        let devices = deal_lines(alloc, specs.len(), part)?;
+        let opened = phase_openings(
+            alloc,
+            ended.as_slice(),
+            devices.as_slice(),
+            subs.as_slice(),
+            &mut relid,
+        )?;
+        let openings = number(
+            alloc,
+            opened.as_slice(),
+            specs,
+            sizes.as_slice(),
+            devices.as_slice(),
+            &mut next,
+        )?;
+        phases.push(openings)?;
+        end_devices(&mut ended, devices.as_slice());
+        left = behind;
+    }
+    Ok(phases)
+}
+
+// So many devices, none of which has ended.
+fn none_ended(alloc: Global, count: usize) -> Result<Vec<bool>, AllocError>
+    ensures { IfOk result (λ ended. ended.items ≡ replicate count false) }
+{
+    let mut ended = Vec::new(alloc);
+    for _ in 0..count {
+        ended.push(false)?;
+    }
+    Ok(ended)
+}
+
+// The openings of a phase's channels, in order: each takes the next handles and the next pages. `sizes` has the data pages of each device's rings, and `devices` what the lines of
+// the phase say to it.
+fn number(
+    alloc: Global,
+    opened: &[PhaseOpening],
+    specs: &[DeviceSpec],
+    sizes: &[u32],
+    devices: &[DeviceLines<'_>],
     next: &mut Next,
 ) -> Result<Vec<Opening>, AllocError>
-    requires few { length devices.now ≤ 16 }
-    requires all { length devices.now ≡ length specs.now }
-    requires subs { All (λ spec. subs_of spec ≤ 3) specs.now }
-    requires sizes { HasSizes devices.now }
+    requires within { All (IsOfDevice (length devices.now)) opened.now }
+    requires specs { length specs.now ≡ length devices.now }
+    requires sizes { length sizes.now ≡ length devices.now }
+    requires small { All (λ n. n ≤ 16) sizes.now }
+    requires few { length opened.now ≤ 64 }
     requires gpadl { next.old.gpadl + 64 * 3 < 2 ^ 32 }
     requires page { next.old.page + 64 * 162 < 2 ^ 64 }
-    requires relid { next.old.relid + 64 < 2 ^ 32 }
-    ensures openings { IfOk result (λ os. os.items ≡ openings_from (size_in devices.now) (fate_in part.now) next.old.gpadl next.old.page (opened_from (opens devices.now part.now start) 0 next.old.relid specs.now)) }
-    ensures gpadl { OnOk result (next.new.gpadl ≡ next.old.gpadl + lists_in (opened_from (opens devices.now part.now start) 0 next.old.relid specs.now)) }
-    ensures page { OnOk result (next.new.page ≡ next.old.page + pages_in (size_in devices.now) (opened_from (opens devices.now part.now start) 0 next.old.relid specs.now)) }
-    ensures relid { OnOk result (next.new.relid ≡ next.old.relid + length (others (opened_from (opens devices.now part.now start) 0 next.old.relid specs.now))) }
-    ensures few_more { OnOk result ((next.new.gpadl ≤ next.old.gpadl + 64 * 3) × (next.new.page ≤ next.old.page + 64 * 162) × (next.new.relid ≤ next.old.relid + 64)) }
+    ensures numbered { IfOk result (λ os. (pages : ℕ → ℕ) (part : List OneLine) (cs : List OneOpening) → AreChannels pages part specs.now sizes.now devices.now cs opened.now → Numbered pages (λ device. fate_of device part) cs [] next.old os.items next.new) }
+    ensures few_more { OnOk result ((next.new.gpadl ≤ next.old.gpadl + 64 * 3) × (next.new.page ≤ next.old.page + 64 * 162)) }
 {
-    let mut openings = Vec::new(alloc);
-    for (i, device) in devices.iter().enumerate() {
-        let opened = opens(part, start, *device, i as u32);
-        let fate = fate_in(part, i as u32);
-        deal(
-            opened,
-            i as u32,
-            specs[i],
-            device.ring_pages,
-            fate,
-            &mut openings,
-            next,
-        )?;
+    let mut openings = Vec::with_capacity(alloc, opened.len())?;
+    for o in opened {
+        number_one(*o, specs, sizes, devices, &mut openings, next)?;
     }
     Ok(openings)
 }
 
-// Opens the channels of a device, where that is so: each takes the next handles and the next pages, and
-// each sub-channel the next relid.
-fn deal(
-    opened: bool,
-    number: u32,
-    spec: DeviceSpec,
-    ring_pages: u32,
-    fate: Fate,
+// The opening of one more of them.
+fn number_one(
+    o: PhaseOpening,
+    specs: &[DeviceSpec],
+    sizes: &[u32],
+    devices: &[DeviceLines<'_>],
     openings: &mut Vec<Opening>,
     next: &mut Next,
 ) -> Result<(), AllocError>
-    requires size { ring_pages ≤ 16 }
-    requires number { number < 16 }
-    requires subs { subs_of spec ≤ 3 }
-    requires gpadl { next.old.gpadl + 4 * 3 < 2 ^ 32 }
-    requires page { next.old.page + 4 * 162 < 2 ^ 64 }
-    requires relid { next.old.relid + 4 < 2 ^ 32 }
-    ensures dealt { OnOk result (Dealt (channels_if opened number spec next.old.relid) ring_pages fate openings.old.items next.old openings.new.items next.new) }
-    ensures few { OnOk result ((next.new.gpadl ≤ next.old.gpadl + 4 * 3) × (next.new.page ≤ next.old.page + 4 * 162) × (next.new.relid ≤ next.old.relid + 4)) }
+    requires inside { IsOfDevice (length devices.now) o }
+    requires specs { length specs.now ≡ length devices.now }
+    requires sizes { length sizes.now ≡ length devices.now }
+    requires small { All (λ n. n ≤ 16) sizes.now }
+    requires gpadl { next.old.gpadl + 3 < 2 ^ 32 }
+    requires page { next.old.page + 162 < 2 ^ 64 }
+    ensures numbered { OnOk result ((pages : ℕ → ℕ) (part : List OneLine) (c : OneOpening) → AreChannels pages part specs.now sizes.now devices.now (c ∷ []) (o ∷ []) → Numbered pages (λ device. fate_of device part) (c ∷ []) openings.old.items next.old openings.new.items next.new) }
+    ensures few { OnOk result ((next.new.gpadl ≤ next.old.gpadl + 3) × (next.new.page ≤ next.old.page + 162)) }
 {
-    if opened {
-        let buffers = has_buffers(spec);
-        open(number + 1, 0, ring_pages, fate, buffers, openings, next)?;
-        for i in 0..subs_of(spec) {
-            let relid = next.relid;
-            next.relid += 1;
-            open(relid, i + 1, ring_pages, fate, buffers, openings, next)?;
-        }
-    }
+    let device = o.device as usize;
+    let fate = fate_of(&devices[device]);
+    let buffers = has_buffers(specs[device]);
+    open(
+        o.relid,
+        o.sub as u16,
+        sizes[device],
+        fate,
+        buffers,
+        openings,
+        next,
+    )?;
     Ok(())
 }
 
@@ -328,7 +260,7 @@ fn open(
     requires gpadl { next.old.gpadl + 3 < 2 ^ 32 }
     requires page { next.old.page + 162 < 2 ^ 64 }
     ensures opened { OnOk result (openings.new.items ≡ openings.old.items ++ record { relid = relid; sub = sub; ring_pages = ring_pages; gpadl = next.old.gpadl; first_page = next.old.page; rescinded = fate.rescinded; vp = vp_at fate.vp sub; dialed = None; buffers = buffers } ∷ []) }
-    ensures next { OnOk result (next.new ≡ record { gpadl = next.old.gpadl + lists_with buffers; page = next.old.page + pages_with buffers ring_pages; relid = next.old.relid }) }
+    ensures next { OnOk result (next.new ≡ record { gpadl = next.old.gpadl + lists_with buffers; page = next.old.page + pages_with buffers ring_pages }) }
 {
     openings.push(Opening {
         relid,
@@ -370,67 +302,9 @@ fn has_buffers(spec: DeviceSpec) -> bool
     matches!(spec, DeviceSpec::Net { .. })
 }
 
-// How many channels a device has beside its first one.
-fn subs_of(spec: DeviceSpec) -> u16
-    requires { subs_of spec ≤ 3 }
-    ensures { result ≡ subs_of spec }
-{
-    match spec {
-        DeviceSpec::Beat => 0,
-        DeviceSpec::Down => 0,
-        DeviceSpec::Disk { subs, .. } => subs as u16,
-        DeviceSpec::Net { .. } => 0,
-    }
-}
-
-// Whether a device is opened in a phase.
-fn opens(part: &[Line], start: usize, device: Served, number: u32) -> bool
-    ensures { result ≡ opens_one part.now start device number }
-{
-    !ended_before(device.end, start) && is_wanted(part, number)
-}
-
-// Whether one of these lines speaks to a device.
-fn is_wanted(part: &[Line], device: u32) -> bool
-    ensures { result ≡ list_any (λ l. speaks_to device l.what) part.now }
-{
-    part.iter().any(|l| speaks_to(&l.what, device))
-}
-
-// What these lines do to a device.
-fn fate_in(part: &[Line], device: u32) -> Fate
-    ensures { result ≡ fate_in part.now device }
-{
-    Fate {
-        rescinded: is_rescinded(part, device),
-        vp: vp_in(part, device),
-    }
-}
-
-// The processor that these lines move a device to, if they do.
-fn vp_in(part: &[Line], device: u32) -> Option<u32>
-    ensures { result ≡ vp_in part.now device }
-{
-    for line in part {
-        if let What::Modify { device: d, vp } = &line.what {
-            if *d == device {
-                return Some(*vp);
-            }
-        }
-    }
-    None
-}
-
 // A device is moved by its first channel.
 fn vp_at(vp: Option<u32>, sub: u16) -> Option<u32>
     ensures { result ≡ vp_at vp sub }
 {
     if sub == 0 { vp } else { None }
-}
-
-// Whether one of these lines rescinds a device.
-fn is_rescinded(part: &[Line], device: u32) -> bool
-    ensures { result ≡ rescinded_in part.now device }
-{
-    part.iter().any(|l| rescinds(&l.what, device))
 }

@@ -1,29 +1,55 @@
-use Rattle.std.proofs.Common.{◌≤◌, refl, arith, length, get_or}
-use Rattle.bus_plan.proofs.Ordering.{first_next, others_start, others_next, all_planned, next_planned}
+use Rattle.std.proofs.Common.{◌≡◌, ◌∙◌, ◌+◌, [], length, map, sym, ap, subst, arith}
+use Rattle.std.specs.Prelude.{All}
+use Rattle.script_phases.specs.Openings.{opened_from, is_opened, firsts, others}
+use Rattle.phase_plan.specs.Told.{AreDealt}
+use Rattle.phase_plan.specs.Opened.{AreDevices, AreEnded, IsOfDevice, plain}
+use Rattle.bus_plan.specs.Plans.{AreOpened, EachOrdered, HasSubs}
+use Rattle.bus_plan.proofs.Ordering.{subs_have}
 use Rattle.bus_plan.proofs.plan.plan_part.Goals as goal
 
-pub loop-device-preserved : goal.loop-device-preserved
-loop-device-preserved c =
-    let i = c.loop-device.device in
-    first_next c.args.part.now c.args.ended.now c.args.subs.now c.args.next.now i (get_or c.args.subs.now i 0) c.loop-device.plan.items c.plan_first.new.plan.items c.loop-device.invariant (omega (arith, c.loop-device-test.true, c.requires.devices)) refl
-    c.in_ok-plan_first.ensures
+pub phase_openings-requires-clause-few : goal.phase_openings-requires-clause-few
+phase_openings-requires-clause-few c = omega (arith, ap length c.as_slice-2.ensures.value, c.in_ok-devices.ensures.count, c.requires.few)
 
-pub loop-device-2-init : goal.loop-device-2-init
-loop-device-2-init c =
-    others_start c.args.part.now c.args.ended.now c.args.subs.now c.args.next.now c.loop-device.device c.loop-device.plan.items (omega (arith, c.loop-device-test.false, c.requires.devices)) c.loop-device.invariant
+pub phase_openings-requires-clause-ended : goal.phase_openings-requires-clause-ended
+phase_openings-requires-clause-ended c = ap length c.as_slice.ensures.value ∙ c.in_ok-over.ensures.count ∙ sym (ap length c.as_slice-2.ensures.value ∙ c.in_ok-devices.ensures.count)
 
-pub loop-device-2-preserved : goal.loop-device-2-preserved
-loop-device-2-preserved c =
-    let i = c.loop-device-2.device in
-    others_next c.args.part.now c.args.ended.now c.args.subs.now c.args.next.now i c.loop-device-2.next c.in_ok-next.field-0 (get_or c.args.subs.now i 0) c.loop-device-2.plan.items c.plan_others.new.plan.items c.loop-device-2.invariant
-    (omega (arith, c.loop-device-2-test.true, c.requires.devices)) refl c.in_ok-next.ensures.most c.in_ok-next.ensures.plan c.in_ok-next.ensures.count
+pub phase_openings-requires-clause-subs : goal.phase_openings-requires-clause-subs
+phase_openings-requires-clause-subs c = c.requires.devices ∙ sym (ap length c.as_slice-2.ensures.value ∙ c.in_ok-devices.ensures.count)
 
-pub returns : goal.returns
-returns c =
-    let i = c.loop-device-2.device in
-    let over : length c.args.subs.now ≤ i = omega (arith, c.loop-device-2-test.false, c.requires.devices) in
-    record {
-      plan = all_planned c.args.part.now c.args.ended.now c.args.subs.now c.args.next.now i c.loop-device-2.next c.loop-device-2.plan.items c.loop-device-2.invariant over;
-      next = next_planned c.args.part.now c.args.ended.now c.args.subs.now c.args.next.now i c.loop-device-2.next c.loop-device-2.plan.items c.loop-device-2.invariant over;
-      room = omega (arith, c.loop-device-2.invariant.most, c.loop-device-2.auto.device-end, c.requires.few);
-    }
+pub order_some-requires-clause-within : goal.order_some-requires-clause-within
+order_some-requires-clause-within c =
+    subst (All (IsOfDevice (length c.as_slice-4.result.now))) (sym c.as_slice-3.ensures.value)
+    (subst (λ n. All (IsOfDevice n) c.in_ok-openings.openings.items) (ap length (c.as_slice-2.ensures.value ∙ sym c.as_slice-4.ensures.value)) c.in_ok-openings.ensures.within)
+
+pub order_some-requires-clause-subs : goal.order_some-requires-clause-subs
+order_some-requires-clause-subs c = c.requires.devices ∙ sym (ap length c.as_slice-4.ensures.value ∙ c.in_ok-devices.ensures.count)
+
+pub returns-clause-plan : goal.returns-clause-plan
+returns-clause-plan c specs p subs this =
+    let part = c.args.part.now in
+    let over = c.in_ok-over.ensures.ended p.earlier this.ended_are in
+    let all : AreDevices p.earlier part specs c.as_slice.result.now c.as_slice-2.result.now c.args.subs.now = record {
+      ended_are = subst (AreEnded p.earlier) (sym c.as_slice.ensures.value) over;
+      dealt = subst (AreDealt part) (sym c.as_slice-2.ensures.value) c.in_ok-devices.ensures.dealt;
+      subs_are = subs;
+    } in
+    let opened : p.opened ≡ opened_from (is_opened p.earlier part) 0 c.args.next.now specs = this.opened ∙ ap (λ l. opened_from (is_opened p.earlier l) 0 c.args.next.now specs) this.part_is in
+    let same : map plain p.opened ≡ c.in_ok-openings.openings.items = ap (map plain) opened ∙ sym (c.in_ok-openings.ensures.opened p.earlier part specs all) in
+    let counts : All (HasSubs c.args.subs.now) p.opened = subst (All (HasSubs c.args.subs.now)) (sym opened) (subs_have (is_opened p.earlier part) c.args.next.now specs c.args.subs.now subs) in
+    let dealt : AreDealt p.part c.in_ok-devices.devices.items = subst (λ l. AreDealt l c.in_ok-devices.devices.items) (sym this.part_is) c.in_ok-devices.ensures.dealt in
+    let first : AreOpened p p.opened c.as_slice-3.result.now c.args.subs.now c.as_slice-4.result.now = record { same = same ∙ sym c.as_slice-3.ensures.value; subs_are = counts; dealt = subst (AreDealt p.part) (sym c.as_slice-4.ensures.value) dealt } in
+    let rest : AreOpened p p.opened c.as_slice-5.result.now c.args.subs.now c.as_slice-6.result.now = record { same = same ∙ sym c.as_slice-5.ensures.value; subs_are = counts; dealt = subst (AreDealt p.part) (sym c.as_slice-6.ensures.value) dealt } in
+    let none : EachOrdered p [] c.in_ok-plan.plan.items = subst (EachOrdered p []) (sym c.in_ok-plan.ensures.items) tt in
+    c.in_ok-order_some-2.ensures p p.opened (firsts p.opened) rest (c.in_ok-order_some.ensures p p.opened [] first none)
+
+pub returns-clause-next : goal.returns-clause-next
+returns-clause-next c specs p subs this =
+    let part = c.args.part.now in
+    let over = c.in_ok-over.ensures.ended p.earlier this.ended_are in
+    let all : AreDevices p.earlier part specs c.as_slice.result.now c.as_slice-2.result.now c.args.subs.now = record {
+      ended_are = subst (AreEnded p.earlier) (sym c.as_slice.ensures.value) over;
+      dealt = subst (AreDealt part) (sym c.as_slice-2.ensures.value) c.in_ok-devices.ensures.dealt;
+      subs_are = subs;
+    } in
+    c.in_ok-openings.ensures.next p.earlier part specs all
+    ∙ ap (λ l. c.args.next.now + length (others l)) (sym (this.opened ∙ ap (λ l. opened_from (is_opened p.earlier l) 0 c.args.next.now specs) this.part_is))

@@ -1,4 +1,4 @@
-use Rattle.std.proofs.Common.{ℕ, ◌+◌, ◌≤◌, ◌∙◌, length, ap, subst, arith, List, Result, IfOk, Ok, Err, Vec, Global}
+use Rattle.std.proofs.Common.{ℕ, ◌≤◌, ◌∙◌, length, ap, subst, arith, List, Result, IfOk, Ok, Err, Vec, Global}
 use Rattle.std.proofs.lemmas.List.FromFn.{length-range_with_len}
 use Rattle.vmbus_msg.specs.declared.msg.Msg.{Msg}
 use Rattle.gpadl.specs.Cut.{AreMessagesOf}

@@ -1,6 +1,6 @@
 use Rattle.std.proofs.Common.{◌≤◌, ◌∙◌, length, sym, ap, subst, arith}
 use Rattle.control_model.specs.Plan.{phase_of, opening_at, Seated}
-use Rattle.control_model.specs.Dealing.{closing_place}
+use Rattle.control_model.specs.Places.{closing_place}
 use Rattle.control_model.proofs.SubLaws.{closing_law, closing_none}
 use Rattle.control_model.proofs.plan.ControlPlan.closing_at.Goals as goal
 
