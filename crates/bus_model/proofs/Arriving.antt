@@ -2,14 +2,14 @@
 use Rattle.std.proofs.Common.{◌≡◌, List, [], ◌∷◌, ◌++◌, length, length-append, map, refl, sym, ap, ◌∙◌, arith}
 use Rattle.std.proofs.lemmas.List.{append-nil, length-map}
 use Rattle.channel_trace.specs.Runs.{IsFront}
-use Rattle.device_formats.specs.Items.{said_item}
-use Rattle.device_formats.specs.declared.buffer_lists.BufferLists.{BufferLists}
+use Rattle.device_packets.specs.Said.{said_item}
+use Rattle.device_wire.specs.declared.buffer_lists.BufferLists.{BufferLists}
 use Rattle.io_edge.specs.declared.side.Side.{Side}
 use Rattle.io_edge.specs.declared.side.Side.TheVariants.{Guest, Host}
 use Rattle.ring_pair_laws.specs.Lists.{Lists}
 use Rattle.channel_model.specs.Roles.{side_that_asks}
 use Rattle.device_kinds.specs.Served.{Served}
-use Rattle.device_formats.specs.declared.want.Want.TheVariants.{Script}
+use Rattle.device_wire.specs.declared.want.Want.TheVariants.{Request as Script}
 use Rattle.channel_model.specs.Channel.{count_of}
 use Rattle.bus_model.specs.Orders.{Order}
 use Rattle.bus_model.specs.Channel.{Carries, ItemsArrive, items_got, items_sent, other}

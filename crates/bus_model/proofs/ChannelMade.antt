@@ -9,17 +9,15 @@ use Rattle.io_edge.specs.declared.side.Side.TheVariants.{Guest, Host}
 use Rattle.channel_trace.proofs.Steps.{ends_exchanged}
 use Rattle.ring_pair_laws.specs.Lists.{AreOfRun, Lists}
 use Rattle.script_lines.specs.declared.line.Ask.{Ask}
-use Rattle.device_formats.specs.declared.want.Want.TheVariants.{Script}
-use Rattle.device_formats.specs.Wants.{IsAskable, no_lists}
-use Rattle.device_formats.specs.Formats.{format_of, fits_on, asked_as}
-use Rattle.device_formats.proofs.ChannelScriptLaws.{few_starts}
-use Rattle.device_formats.proofs.FormatLaws.{keeps, start_is_fixed, script_asks, asked_is}
+use Rattle.device_wire.specs.declared.want.Want.TheVariants.{Request as Script}
+use Rattle.device_kinds.specs.Kinds.{IsAskable, DeviceWant as Want}
+use Rattle.device_kinds.specs.Formats.{no_lists, format_of, fits_on, asked_as}
+use Rattle.device_kinds.proofs.KindLaws.{few_starts, keeps, start_is_fixed, script_asks, asked_is}
 use Rattle.channel_model.specs.Channel.{IsProtocolRun, count_of}
 use Rattle.channel_model.specs.Roles.{side_that_asks}
 use Rattle.device_kinds.specs.Served.{Served}
-use Rattle.bus_model.specs.Orders.{Order, startup_of, plan_of}
+use Rattle.bus_model.specs.Orders.{Order, startup_of, plan_of, order_of}
 use Rattle.script_phases.specs.Openings.{Phase, Opening}
-use Rattle.bus_model.specs.Orders.{order_of}
 use Rattle.bus_model.specs.Channel.{Carries, InTurn, ItemsArrive, MessagesInTurn, acks_under, answers_under, asked_under, asks_under, events_by, got_by, is_of_asker, items_of, messages_under, other, replies_to, sent_by, served_count}
 use Rattle.bus_model.specs.Run.{Carried, IsCarried}
 use Rattle.bus_model.specs.Laws.{Suits, OrdersRun}
@@ -29,7 +27,7 @@ use Rattle.bus_model.proofs.ReadAs.{reads_so}
 use Rattle.bus_model.proofs.Turning.{events_sent, goes_once}
 use Rattle.page_kept.specs.declared.item.Item.{Item}
 use Rattle.page_kept.specs.Items.{packets}
-use Rattle.device_formats.specs.Items.{said_item}
+use Rattle.device_packets.specs.Said.{said_item}
 use Rattle.bus_model.proofs.FromLists.{serves_first_lem}
 
 fit : (kind : DeviceKind) (n id : ℕ) (asks : List Ask) (served : List Served) → AllByRecursion (IsAskable kind) asks → map (λ c. c.request) served ≡ take n (asked_under (range_with_len id (length asks)) asks)
@@ -76,7 +74,7 @@ plan_made order served suits =
     (subst (λ n. Fit said_item (format_of order.kind) (keeps order.kind) (reads_so order.kind) n (1 + length (startup_of no_lists order)) (map Script order.asks) served) (sym all)
     (fit order.kind (served_count order) (1 + length (startup_of no_lists order)) order.asks served suits.can suits.serves suits.fits))
 
-agree : (order : Order) → count_of order.stop (length (map Script order.asks)) ≡ served_count order
+agree : (order : Order) → count_of order.stop (length {A = Want} (map Script order.asks)) ≡ served_count order
 agree order = ap (count_of order.stop) (length-map order.asks Script)
 
 -- its lists are read as they were made

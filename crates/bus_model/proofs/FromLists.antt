@@ -5,20 +5,18 @@ use Rattle.std.specs.List.{AllByRecursion, cons_option}
 use Rattle.std.proofs.lemmas.List.{length-map, map-append}
 use Rattle.scsi_disk.proofs.RoomLaws.{by_test}
 use Rattle.contact.specs.declared.kind.DeviceKind.{DeviceKind}
-use Rattle.contact.specs.declared.kind.DeviceKind.TheVariants.{Beat, Down, Disk, Net}
+use Rattle.contact.specs.declared.kind.DeviceKind.TheVariants.{Beat, Down, Disk, Net, Kvp}
 use Rattle.page_kept.specs.declared.item.Item.{Item}
 use Rattle.io_edge.specs.declared.side.Side.TheVariants.{Guest, Host}
 use Rattle.script_lines.specs.declared.line.Ask.{Ask}
-use Rattle.script_lines.specs.declared.line.Ask.TheVariants.{Ic as AskIc, Disk as AskDisk, Net as AskNet}
+use Rattle.script_lines.specs.declared.line.Ask.TheVariants.{Ic as AskIc, Disk as AskDisk, Net as AskNet, Kvp as AskKvp}
 use Rattle.bus_script.specs.declared.outcome.LineResult.TheVariants.{Unserved as IsUnserved}
 use Rattle.bus_script.specs.declared.outcome.Reply.{Reply}
-use Rattle.device_formats.specs.declared.want.Want.{Want}
-use Rattle.device_formats.specs.declared.want.Want.TheVariants.{Script}
-use Rattle.device_formats.specs.Wants.{IsAskable, no_lists}
-use Rattle.device_formats.specs.declared.buffer_lists.BufferLists.{BufferLists}
-use Rattle.device_formats.specs.Formats.{format_of, read_on, asked_as}
-use Rattle.device_formats.proofs.ChannelScriptLaws.{same_starts}
-use Rattle.device_formats.proofs.FormatLaws.{keeps, start_is_fixed, asked_is}
+use Rattle.device_kinds.specs.Kinds.{DeviceWant as Want, IsAskable}
+use Rattle.device_wire.specs.declared.want.Want.TheVariants.{Request as Script}
+use Rattle.device_kinds.specs.Formats.{no_lists, format_of, read_on, asked_as}
+use Rattle.device_wire.specs.declared.buffer_lists.BufferLists.{BufferLists}
+use Rattle.device_kinds.proofs.KindLaws.{same_starts, keeps, start_is_fixed, asked_is}
 use Rattle.channel_model.specs.Asker.{Encoded}
 use Rattle.channel_model.specs.Channel.{AllFixed, count_of, IsProtocolRun}
 use Rattle.channel_model.specs.Outcome.{Outcome, Unserved, done_of, served_of, outcomes_of as work_outcomes}
@@ -106,9 +104,11 @@ serves_first_lem Host order tells lists served can run = first_asked order tells
 same_ask : (kind : DeviceKind) (id : ℕ) (ask : Ask) → (kind ≡ Net → ⊥) → IsAskable kind ask → asked_as id ask ≡ ask
 same_ask kind id (AskIc ask) other can = refl
 same_ask kind id (AskDisk request) other can = refl
+same_ask kind id (AskKvp request) other can = refl
 same_ask Beat id (AskNet message) other can = absurd can
 same_ask Down id (AskNet message) other can = absurd can
 same_ask Disk id (AskNet message) other can = absurd can
+same_ask Kvp id (AskNet message) other can = absurd can
 same_ask Net id (AskNet message) other can = absurd (other refl)
 
 none_under : (asks : List Ask) → [] ≡ take 0 asks

@@ -17,10 +17,9 @@ use Rattle.channel_model.specs.Roles.{side_that_asks}
 use Rattle.channel_model.specs.WireFormat.{WireFormat}
 use Rattle.script_lines.specs.declared.line.Ask.{Ask}
 use Rattle.bus_script.specs.declared.outcome.Reply.{Reply}
-use Rattle.device_formats.specs.declared.want.Want.{Want}
-use Rattle.device_formats.specs.Formats.{format_of, lends_on}
-use Rattle.device_formats.proofs.FormatLaws.{keeps}
-use Rattle.device_formats.proofs.PageFormatLaws.{pages_kept}
+use Rattle.device_kinds.specs.Kinds.{DeviceWant as Want}
+use Rattle.device_kinds.specs.Formats.{format_of, lends_on}
+use Rattle.device_kinds.proofs.KindLaws.{keeps, pages_kept}
 use Rattle.device_kinds.specs.Served.{Served}
 use Rattle.io_edge.specs.declared.side.Side.{Side}
 use Rattle.ring_pair_laws.specs.Lists.{AreOfRun, Lists}

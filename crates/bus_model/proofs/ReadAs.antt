@@ -4,59 +4,61 @@ use Rattle.std.specs.Prelude.{is_none}
 use Rattle.std.proofs.lemmas.List.{take_all}
 use Rattle.page_kept.specs.declared.item.Item.{Item}
 use Rattle.contact.specs.declared.kind.DeviceKind.{DeviceKind}
-use Rattle.contact.specs.declared.kind.DeviceKind.TheVariants.{Beat, Down, Disk, Net}
+use Rattle.contact.specs.declared.kind.DeviceKind.TheVariants.{Beat, Down, Disk, Net, Kvp}
 use Rattle.script_lines.specs.declared.line.Ask.{Ask}
 use Rattle.bus_script.specs.declared.outcome.Reply.{Reply}
-use Rattle.channel_model.specs.Carried.{back_by}
-use Rattle.channel_model.specs.Lift.{lift, mapped, or_else}
-use Rattle.channel_model.specs.WireFormat.{Back, WireFormat, listed, packets_in, packets_of, under_own}
-use Rattle.channel_protocol.specs.Paged.{bare_item, in_packets}
-use Rattle.device_formats.specs.declared.want.Want.{Want}
-use Rattle.device_formats.specs.Codecs.{alone, format_by}
-use Rattle.device_formats.specs.Formats.{format_of}
-use Rattle.device_formats.specs.Items.{said_item}
-use Rattle.device_formats.specs.Kinds.{disk_reply, disks, net_reply, net_request, nets, services}
-use Rattle.device_formats.specs.Nets.{net_fits}
-use Rattle.device_formats.specs.PageNets.{message_of, net_ack, net_fixed, net_gives, net_read}
-use Rattle.device_formats.specs.PageDisks.{page_answer, page_fixed, page_read, page_waits}
-use Rattle.device_formats.specs.Services.{service_codec}
-use Rattle.device_formats.proofs.PageFormatLaws.{disk_replies, replied_is, said_answered, said_asked, said_fixed_so}
-use Rattle.device_formats.proofs.AmongLaws.{replied_so}
-use Rattle.device_formats.proofs.NetLaws.{fits_parts}
-use Rattle.device_formats.proofs.NetPageLaws.{of_fixed, said_acked, said_back, said_fixed, said_given, said_asked as said_net_asked}
-use Rattle.device_formats.proofs.SaidLaws.{said_bare}
+use Rattle.channel_model.specs.Lift.{lift, or_else}
+use Rattle.channel_model.specs.WireFormat.{Back, listed, packets_in, packets_of, under_own}
+use Rattle.channel_protocol.specs.Paged.{bare_item}
+use Rattle.device_kinds.specs.Kinds.{ic_reply, disk_reply, disks, kvp_reply, net_reply, nets, pairs, services}
+use Rattle.device_wire.specs.Codecs.{alone, format_by}
+use Rattle.device_wire.specs.Lifted.{among, want_of}
+use Rattle.device_wire.proofs.LiftedLaws.{replies}
+use Rattle.device_kinds.proofs.KindLaws.{case_disks, case_nets}
+use Rattle.device_packets.specs.Packets.{is_inband}
+use Rattle.device_kinds.specs.Formats.{format_of}
+use Rattle.device_packets.specs.Said.{said_item}
+use Rattle.net_format.specs.PageNets.{message_of, net_ack, net_fixed, net_format, net_gives}
+use Rattle.disk_format.specs.PageDisks.{page_answer, page_codec, page_fixed, page_read, page_waits}
+use Rattle.ic_format.specs.Services.{service_answer, service_codec, service_encode, service_fixed, service_read}
+use Rattle.disk_format.proofs.PageFormatLaws.{said_answered, said_encoded, said_fixed_so}
+use Rattle.net_format.proofs.NetLaws.{fits_parts}
+use Rattle.net_format.proofs.NetPageLaws.{of_fixed, said_acked, said_back, said_fixed, said_given, said_encoded as said_net_encoded}
+use Rattle.kvp_format.specs.Pairs.{pair_answer, pair_codec, pair_encode, pair_fixed, pair_read}
+use Rattle.device_packets.proofs.SaidLaws.{said_bare}
 use Rattle.rndis_msg.specs.declared.rndis.Rndis.{Rndis}
 use Rattle.net_dev.specs.declared.reply.NetReply.{NetReply}
 use Rattle.net_dev.specs.Station.{initialize_reply}
-use Rattle.script_lines.specs.declared.line.Ask.TheVariants.{Net as AskNet}
 use Rattle.bus_model.proofs.Made.{AllSo, ReadsSo}
 
--- a message and an answer without page words
-bare_message : (own : ℕ) (o : Option (ℕ → List ℕ)) (rest : List Item) → AllSo said_item rest → AllSo said_item (listed (under_own own (mapped (λ (m : ℕ → List ℕ) (own : ℕ). bare_item (m own)) o)) ++ rest)
-bare_message own None rest h = h
-bare_message own (Some m) rest h = (said_bare (m own), h)
+-- a service's packets have no page words
+bare_if : (b : Bool) (p : List ℕ) (own : ℕ) → AllSo said_item (packets_in own (cond b (Some (alone (bare_item p))) None))
+bare_if true p own = (said_bare p, tt)
+bare_if false p own = tt
 
-bare_back : (own : ℕ) (b : Back (List ℕ)) → AllSo said_item (packets_of own (back_by bare_item bare_item b))
-bare_back own b = bare_message own b.message (bare_item b.answer ∷ []) (said_bare b.answer, tt)
+service_so : (kind : DeviceKind) → ReadsSo said_item (lift (format_by (service_codec kind)) (among services))
+service_so kind = record {
+  asks = λ id a. said_bare (service_encode id (want_of services a));
+  given = λ i q r own h fits. (said_bare (service_answer i.packet (or_else services.other (ic_reply r))), tt);
+  fixed = λ i own. bare_if (is_inband i.packet && is_none (service_read kind i.packet)) (service_fixed kind i.packet) own;
+  acked = λ i. said_bare (service_fixed kind i.packet);
+}
 
-bare_fixed : (own : ℕ) (o : Option (Back (List ℕ))) → AllSo said_item (packets_in own (mapped (back_by bare_item bare_item) o))
-bare_fixed own None = tt
-bare_fixed own (Some b) = bare_back own b
-
-bare_so : (s : WireFormat (List ℕ) Want Ask Reply) → ReadsSo said_item (in_packets s)
-bare_so s = record {
-  asks = λ id a. said_bare (s.encode id a);
-  given = λ i q r own h fits. bare_back own (s.gives i.packet r);
-  fixed = λ i own. bare_fixed own (s.fixed i.packet);
-  acked = λ i. said_bare (s.ack i.packet);
+-- and neither have those of a key-value service
+pair_so : ReadsSo said_item (lift (format_by pair_codec) (among pairs))
+pair_so = record {
+  asks = λ id a. said_bare (pair_encode id (want_of pairs a));
+  given = λ i q r own h fits. (said_bare (pair_answer i.packet (or_else pairs.other (kvp_reply r))), tt);
+  fixed = λ i own. bare_if (is_inband i.packet && is_none (pair_read i.packet)) (pair_fixed i.packet) own;
+  acked = λ i. said_bare (pair_fixed i.packet);
 }
 
 -- a disk's answers
 given_so : (i : Item) (q : Ask) (r : Reply) → (format_of Disk).read i ≡ Some q → (format_of Disk).fits q r ≡ true → said_item (page_answer i (or_else disks.other (disk_reply r))) ≡ page_answer i (or_else disks.other (disk_reply r))
 given_so i q r h fits =
-    let own = disk_replies i q r h fits in
+    let own = replies disks case_disks (format_by page_codec) i q r h fits in
     let a = page_answer i own.replied in
-    subst (λ (x : Item). said_item x ≡ x) (sym (replied_is i r own)) (said_answered i own.asked own.replied a own.reads own.holds refl (take_all (length a.words) a.words (omega arith)))
+    subst (λ (x : Item). said_item x ≡ x) (ap (λ o. page_answer i (or_else disks.other o)) (sym own.is)) (said_answered i own.asked own.replied a own.reads own.holds refl (take_all (length a.words) a.words (omega arith)))
 
 fixed_if : (waits none : Bool) (i : Item) (own : ℕ) → (waits ≡ true → said_item (page_fixed i) ≡ page_fixed i) → AllSo said_item (packets_in own (cond (waits && none) (Some (alone (page_fixed i))) None))
 fixed_if true true i own h = (h refl, tt)
@@ -70,7 +72,7 @@ acked_so i = said_bare (page_fixed i).packet
 
 disk_so : ReadsSo said_item (format_of Disk)
 disk_so = record {
-  asks = said_asked;
+  asks = λ id a. said_encoded id (want_of disks a);
   given = λ i q r own h fits. (given_so i q r h fits, tt);
   fixed = λ i own. fixed_if (page_waits i) (is_none (page_read i)) i own (λ waits. said_fixed_so i (page_fixed i) waits refl);
   acked = λ i. acked_so i;
@@ -86,7 +88,7 @@ net_back_so own i r small = net_messages own r.back ((net_gives i r).answer ∷ 
 
 net_given_so : (i : Item) (q : Ask) (r : Reply) (own : ℕ) → (format_of Net).read i ≡ Some q → (format_of Net).fits q r ≡ true → AllSo said_item (packets_of own (net_gives i (or_else nets.other (net_reply r))))
 net_given_so i q r own h fits =
-    let x = replied_so net_fits AskNet net_request (λ y. refl) (net_read i) q (net_request q) (net_reply r) refl h fits in
+    let x = replies nets case_nets net_format i q r h fits in
     subst (λ (o : NetReply). AllSo said_item (packets_of own (net_gives i o))) (sym (ap (or_else nets.other) x.is)) (net_back_so own i x.replied (fits_parts x.asked x.replied x.holds).0)
 
 net_fixed_so : (i : Item) (own : ℕ) (o : Option (Back Item)) → net_fixed i ≡ o → AllSo said_item (packets_in own o)
@@ -97,14 +99,15 @@ net_fixed_so i own (Some b) is =
 
 net_so : ReadsSo said_item (format_of Net)
 net_so = record {
-  asks = said_net_asked;
+  asks = λ id a. said_net_encoded id (want_of nets a);
   given = λ i q r own h fits. net_given_so i q r own h fits;
   fixed = λ i own. net_fixed_so i own (net_fixed i) refl;
   acked = λ i. said_acked i (net_ack i) refl;
 }
 
 pub reads_so : (kind : DeviceKind) → ReadsSo said_item (format_of kind)
-reads_so Beat = bare_so (lift (format_by (service_codec Beat)) services)
-reads_so Down = bare_so (lift (format_by (service_codec Down)) services)
+reads_so Beat = service_so Beat
+reads_so Down = service_so Down
 reads_so Disk = disk_so
 reads_so Net = net_so
+reads_so Kvp = pair_so

@@ -13,8 +13,8 @@ use Rattle.channel_trace.specs.Runs.{sent_of, got_of}
 use Rattle.channel_trace.proofs.Filling.{all_sent, all_got}
 use Rattle.channel_trace.proofs.Pasts.{sent_of-append}
 use Rattle.channel_model.specs.Roles.{side_that_asks}
-use Rattle.device_formats.specs.Formats.{format_of}
-use Rattle.device_formats.specs.Items.{said_item}
+use Rattle.device_kinds.specs.Formats.{format_of}
+use Rattle.device_packets.specs.Said.{said_item}
 use Rattle.io_edge.specs.declared.side.Side.{Side}
 use Rattle.io_edge.specs.declared.side.Side.TheVariants.{Guest, Host}
 use Rattle.ring_pair_laws.specs.Lists.{AreOfRun, Lists}

@@ -5,10 +5,10 @@ use Rattle.contact.specs.declared.kind.DeviceKind.TheVariants.{Disk as DiskKind}
 use Rattle.script_lines.specs.declared.line.Line.{Line}
 use Rattle.script_lines.specs.declared.line.What.TheVariants.{Offer as IsOffer, Ask as IsAsk, Shut as IsShut}
 use Rattle.script_lines.specs.declared.line.Ask.{Ask}
-use Rattle.script_lines.specs.declared.line.Ask.TheVariants.{Ic as AskIc, Disk as AskDisk, Net as AskNet}
+use Rattle.script_lines.specs.declared.line.Ask.TheVariants.{Disk as AskDisk}
 use Rattle.script_lines.specs.declared.line.DeviceSpec.TheVariants.{Disk}
-use Rattle.device_formats.specs.Wants.{IsAskable}
-use Rattle.device_formats.specs.Formats.{asked_as}
+use Rattle.device_kinds.specs.Kinds.{IsAskable}
+use Rattle.device_kinds.specs.Formats.{asked_as}
 use Rattle.script_phases.specs.Openings.{Phase, Opening}
 use Rattle.bus_script.specs.declared.outcome.LineResult.TheVariants.{Done, Closed}
 use Rattle.bus_model.specs.Orders.{order_of}
@@ -23,9 +23,8 @@ opening relid subs sub = record { relid = relid; device = 0; spec = Disk 64 subs
 -- a disk is asked the same under each id
 
 same_disk : (id : ℕ) (ask : Ask) → IsAskable DiskKind ask → ask ≡ asked_as id ask
-same_disk id (AskIc q) can = absurd can
 same_disk id (AskDisk q) can = refl
-same_disk id (AskNet q) can = absurd can
+same_disk id _ can = absurd can
 
 one_disk : (id : ℕ) (ask : Ask) → IsAskable DiskKind ask → ask ∷ [] ≡ asked_as id ask ∷ []
 one_disk id ask can = ap (λ a. a ∷ []) (same_disk id ask can)

@@ -8,8 +8,8 @@ use Rattle.channel_trace.specs.declared.event.Event.{Event}
 use Rattle.channel_trace.specs.declared.event.Event.TheVariants.{Sent, Got, Empty, Marked, Saw}
 use Rattle.channel_trace.specs.Filled.{filled}
 use Rattle.channel_trace.specs.Runs.{IsFront}
-use Rattle.device_formats.specs.Formats.{format_of, asked_as}
-use Rattle.device_formats.specs.Items.{said_item}
+use Rattle.device_kinds.specs.Formats.{format_of, asked_as, no_lists}
+use Rattle.device_packets.specs.Said.{said_item}
 use Rattle.bus_script.specs.declared.outcome.LineResult.{LineResult}
 use Rattle.bus_script.specs.declared.outcome.LineResult.TheVariants.{RescindedServed, Unserved}
 use Rattle.io_edge.specs.declared.side.Side.{Side}
@@ -18,9 +18,8 @@ use Rattle.ring_pair_laws.specs.Lists.{AreOfRun, Lists}
 use Rattle.script_lines.specs.declared.line.Ask.{Ask}
 use Rattle.bus_script.specs.declared.outcome.Reply.{Reply}
 use Rattle.channel_model.specs.WireFormat.{WireFormat}
-use Rattle.device_formats.specs.declared.want.Want.{Want}
-use Rattle.device_formats.specs.declared.buffer_lists.BufferLists.{BufferLists}
-use Rattle.device_formats.specs.Wants.{no_lists}
+use Rattle.device_kinds.specs.Kinds.{DeviceWant as Want}
+use Rattle.device_wire.specs.declared.buffer_lists.BufferLists.{BufferLists}
 use Rattle.channel_model.specs.Channel.{count_of, held_of, IsProtocolRun}
 use Rattle.channel_model.specs.Roles.{side_that_asks}
 use Rattle.channel_model.specs.Server.{answered}

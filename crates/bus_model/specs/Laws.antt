@@ -18,9 +18,9 @@ use Rattle.bus_script.specs.declared.outcome.LineResult.{LineResult}
 use Rattle.bus_script.specs.declared.outcome.LineResult.TheVariants.{Version, Done, RescindedServed, Unserved, Modified, Unsupported, Gone, Closed}
 use Rattle.bus_script.specs.declared.outcome.Reply.{Reply}
 use Rattle.bus_script.specs.Report.{prints}
-use Rattle.device_formats.specs.Wants.{IsAskable, no_lists}
-use Rattle.device_formats.specs.declared.buffer_lists.BufferLists.{BufferLists}
-use Rattle.device_formats.specs.Formats.{format_of, fits_on, lends_on}
+use Rattle.device_kinds.specs.Kinds.{IsAskable}
+use Rattle.device_kinds.specs.Formats.{no_lists, format_of, fits_on, lends_on}
+use Rattle.device_wire.specs.declared.buffer_lists.BufferLists.{BufferLists}
 use Rattle.io_edge.specs.declared.side.Side.{Side}
 use Rattle.io_edge.specs.declared.side.Side.TheVariants.{Guest, Host}
 use Rattle.ring_pair_laws.specs.Lists.{Lists}

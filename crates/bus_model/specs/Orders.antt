@@ -6,10 +6,10 @@ use Rattle.script_lines.specs.Parts.{kind_of, channels_of}
 use Rattle.script_phases.specs.Says.{asks_of, stop_of}
 use Rattle.script_phases.specs.Openings.{Opening, Phase, subs_of}
 use Rattle.script_phases.specs.Shares.{share}
-use Rattle.device_formats.specs.declared.want.Want.{Want}
-use Rattle.device_formats.specs.declared.want.Want.TheVariants.{Script}
-use Rattle.device_formats.specs.Wants.{startup}
-use Rattle.device_formats.specs.declared.buffer_lists.BufferLists.{BufferLists}
+use Rattle.device_kinds.specs.Kinds.{DeviceWant as Want}
+use Rattle.device_wire.specs.declared.want.Want.TheVariants.{Request as Script}
+use Rattle.device_kinds.specs.Formats.{startup}
+use Rattle.device_wire.specs.declared.buffer_lists.BufferLists.{BufferLists}
 use Rattle.channel_model.specs.Channel.{RequestPlan}
 
 -- a channel's kind, its number among the device's channels, how many sub-channels that has, its requests, and where its service stops: after some of

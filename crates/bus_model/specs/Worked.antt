@@ -10,8 +10,8 @@ use Rattle.script_phases.specs.Openings.{phases}
 use Rattle.bus_script.specs.declared.outcome.LineResult.{LineResult}
 use Rattle.bus_script.specs.declared.outcome.LineResult.TheVariants.{Done, RescindedServed, Unserved, Closed}
 use Rattle.bus_script.specs.declared.outcome.Reply.{Reply}
-use Rattle.device_formats.specs.Wants.{IsAskable}
-use Rattle.device_formats.specs.Formats.{fits_on}
+use Rattle.device_kinds.specs.Kinds.{IsAskable}
+use Rattle.device_kinds.specs.Formats.{fits_on}
 use Rattle.ring_pair_laws.specs.Lists.{Lists}
 use Rattle.device_kinds.specs.Served.{Served}
 use Rattle.bus_model.specs.Orders.{Order}

@@ -46,7 +46,7 @@ module _ {A Q R : Type 0} (s : WireFormat Item A Q R) (keeps : Keeps s) where
   encoded_by Marked start script past told by = (by.0 (record { start = start; script = script; stop = None }) refl).encoded
   encoded_by PeerMarked start script past told by = (by.0 (record { start = start; script = script; stop = None }) refl).encoded
   encoded_by (Room packets words left) start script past told by = by.encoded
-  encoded_by Broken start script past told by = by.encoded
+  encoded_by (Broken why) start script past told by = by.encoded
 
   -- an end that ended asked no more of the device than its script does
   pub few_asked : (how : Ended) (start script : List A) (past : List (Event Item)) (told : List R) → AllFixed s start → AsksBy s how (start ++ script) past told → length (filter (is_asked s) (sent_of past)) ≤ length script

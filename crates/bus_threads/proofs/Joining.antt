@@ -9,11 +9,12 @@ use Rattle.channel_trace.specs.declared.event.Event.{Event}
 use Rattle.channel_trace.specs.Runs.{sent_of, got_of}
 use Rattle.channel_trace.specs.Laws.{AreOfOneRun}
 use Rattle.bus_script.specs.declared.outcome.Reply.{Reply}
-use Rattle.device_formats.specs.declared.want.Want.TheVariants.{Script}
-use Rattle.device_formats.specs.Wants.{IsAskable}
-use Rattle.device_formats.specs.declared.buffer_lists.BufferLists.{BufferLists}
-use Rattle.device_formats.specs.Formats.{format_of}
-use Rattle.device_formats.proofs.FormatLaws.{keeps, start_is_fixed, script_asks}
+use Rattle.device_wire.specs.declared.want.Want.TheVariants.{Request as Script}
+use Rattle.device_kinds.specs.Kinds.{DeviceWant as Want}
+use Rattle.device_kinds.specs.Kinds.{IsAskable}
+use Rattle.device_wire.specs.declared.buffer_lists.BufferLists.{BufferLists}
+use Rattle.device_kinds.specs.Formats.{format_of}
+use Rattle.device_kinds.proofs.KindLaws.{keeps, start_is_fixed, script_asks}
 use Rattle.channel_model.specs.Server.{answered}
 use Rattle.channel_model.specs.Channel.{AskerEnds, AskerSettles, IsRequestPlan, ServerEnds, asks_of as channel_asks, count_of, held_of, IsProtocolRun as Runs}
 use Rattle.channel_model.proofs.Ends.{joins, settles_in_order}
@@ -49,7 +50,7 @@ never_settles order tells asker server calls told both k stop (inl less) settles
     let plan = plan_of tells order in
     let run = run_of order tells asker server calls told both in
     let done = settles_in_order s (channel_asks s plan) asker server both.one both.server_ends.order both.asker_ends.encoded in
-    let count = length-map order.asks Script in
+    let count = length-map {B = Want} order.asks Script in
     let serve = ap (λ o. count_of o (length plan.script)) stop in
     let called = all_called_for s (keeps order.kind) plan asker server calls told told (plan_is order tells both.can) both.asker_ends done settles run in
     omega (arith, called, run.count, serve, count, less)
@@ -58,7 +59,7 @@ never_settles order tells asker server calls told both k stop (inr (is, some, mo
     let plan = plan_of tells order in
     let run = run_of order tells asker server calls told both in
     let done = settles_in_order s (channel_asks s plan) asker server both.one both.server_ends.order both.asker_ends.encoded in
-    let count = length-map order.asks Script in
+    let count = length-map {B = Want} order.asks Script in
     let serve = ap (λ o. count_of o (length plan.script)) stop in
     let within : k.0 ≤ length plan.script = omega (arith, most, count) in
     let last : nat_le k.0 (length plan.script) ≡ true = grind (arith, nat_tests, within) in
@@ -68,7 +69,7 @@ never_settles order tells asker server calls told both k stop (inr (is, some, mo
 -- the replies that were read are those of the calls that were answered, in order
 pub told_is : (order : Order) (tells : BufferLists) (asker server : List (Event Item)) (calls : List Served) (told : List Reply) → BothEnd order tells asker server calls told → told ≡ map (λ c. c.reply) (replies_to order calls)
 told_is order tells asker server calls told both =
-    (run_of order tells asker server calls told both).replies ∙ ap (λ m. map (λ (c : Served). c.reply) (answered (format_of order.kind) (held_of order.stop m) (count_of order.stop m) calls)) (length-map order.asks Script)
+    (run_of order tells asker server calls told both).replies ∙ ap (λ m. map (λ (c : Served). c.reply) (answered (format_of order.kind) (held_of order.stop m) (count_of order.stop m) calls)) (length-map {B = Want} order.asks Script)
 
 pub runs : (order : Order) (tells : BufferLists) (asker server : List (Event Item)) (calls : List Served) (told : List Reply) → BothEnd order tells asker server calls told
     → Runs (format_of order.kind) (plan_of tells order) (sent_of asker) (got_of asker) (sent_of server) (got_of server) calls (map (λ c. c.reply) (replies_to order calls))

@@ -8,3 +8,4 @@ pub mod Alone
 pub mod ItemJoins
 pub mod Turns
 pub mod Stops
+pub mod Closing

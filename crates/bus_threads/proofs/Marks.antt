@@ -22,19 +22,19 @@ abbrev pub EndsSo : {P : Type 0} → Ended → List (Event P) → Type 0
 EndsSo Marked past = (has_marked past ≡ true) × (has_seen past ≡ false)
 EndsSo PeerMarked past = (has_marked past ≡ true) × (has_seen past ≡ true)
 EndsSo (Room packets words left) past = ⊥
-EndsSo Broken past = ⊥
+EndsSo (Broken why) past = ⊥
 
 pub asks_so : {A Q R : Type 0} (s : WireFormat Item A Q R) (how : Ended) (asks : List A) (past : List (Event Item)) (told : List R) → is_whole how ≡ true → AsksBy s how asks past told → EndsSo how past
 asks_so s Marked asks past told whole by = (by.1, by.2)
 asks_so s PeerMarked asks past told whole by = (by.1, by.2)
 asks_so s (Room packets words left) asks past told whole by = absurd (cc (whole))
-asks_so s Broken asks past told whole by = absurd (cc (whole))
+asks_so s (Broken why) asks past told whole by = absurd (cc (whole))
 
 pub serves_so : {T S E A Q R : Type 0} (s : WireFormat Item A Q R) (besides : Bool) (how : Ended) (w : Serving T S E Q R) (e : Line E) (calls : List (Call Q R)) → is_whole how ≡ true → EndsBy s besides how w e calls → EndsSo how e.state.past
 serves_so s besides Marked w e calls whole by = (by.3, by.4)
 serves_so s besides PeerMarked w e calls whole by = (by.3, by.4)
 serves_so s besides (Room packets words left) w e calls whole by = absurd (cc (whole))
-serves_so s besides Broken w e calls whole by = absurd (cc (whole))
+serves_so s besides (Broken why) w e calls whole by = absurd (cc (whole))
 
 -- an end that stops nowhere follows the other one
 pub stops_nowhere : {P A Q R : Type 0} (s : WireFormat P A Q R) (plan : RequestPlan A) (past : List (Event P)) (calls : List (Call Q R)) → plan.stop ≡ None → ServerEnds s plan past calls → Follows past
@@ -86,6 +86,6 @@ marked_first (Some k) count Marked served a s one e f follows before = (inl refl
 marked_first (Some k) count PeerMarked Marked a s one e f follows before = (inr refl, λ leaves. (refl, refl))
 marked_first (Some k) count PeerMarked PeerMarked a s one e f follows before = absurd (not_both a s one e.0 e.1 f.1)
 marked_first stop count (Room packets words left) served a s one e f follows before = absurd e
-marked_first stop count Broken served a s one e f follows before = absurd e
+marked_first stop count (Broken why) served a s one e f follows before = absurd e
 marked_first stop count asked (Room packets words left) a s one e f follows before = absurd f
-marked_first stop count asked Broken a s one e f follows before = absurd f
+marked_first stop count asked (Broken why) a s one e f follows before = absurd f

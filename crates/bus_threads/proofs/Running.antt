@@ -16,15 +16,12 @@ use Rattle.bus_model.proofs.FromLists.{serves_first_lem}
 use Rattle.device_kinds.specs.Served.{Served}
 use Rattle.script_lines.specs.declared.line.Ask.{Ask}
 use Rattle.bus_script.specs.declared.outcome.Reply.{Reply}
-use Rattle.device_formats.specs.Formats.{besides_on, format_of}
-use Rattle.device_formats.specs.Items.{said_item}
-use Rattle.device_formats.specs.Wants.{no_lists, startup}
-use Rattle.device_formats.specs.declared.buffer_lists.BufferLists.{BufferLists}
-use Rattle.device_formats.proofs.StartLaws.{same_answers}
-use Rattle.device_formats.proofs.FormatLaws.{keeps, start_is_fixed}
-use Rattle.device_formats.specs.ChannelScript.{ChannelScript, asks_of}
-use Rattle.device_formats.specs.declared.want.Want.{Want}
-use Rattle.device_formats.specs.declared.want.Want.TheVariants.{Script}
+use Rattle.device_kinds.specs.Formats.{besides_on, format_of, no_lists, startup, ChannelScript, asks_of}
+use Rattle.device_packets.specs.Said.{said_item}
+use Rattle.device_wire.specs.declared.buffer_lists.BufferLists.{BufferLists}
+use Rattle.device_kinds.proofs.KindLaws.{same_answers, keeps, start_is_fixed}
+use Rattle.device_kinds.specs.Kinds.{DeviceWant as Want}
+use Rattle.device_wire.specs.declared.want.Want.TheVariants.{Request as Script}
 use Rattle.io_edge.specs.declared.side.Side.{Side}
 use Rattle.io_edge.specs.declared.side.Side.TheVariants.{Guest, Host}
 use Rattle.ring_core.specs.Seen.{Seen}
@@ -85,14 +82,14 @@ is_whole_of : (how : Ended) → has_room how ≡ true → is_broken how ≡ fals
 is_whole_of Marked is honest = refl
 is_whole_of PeerMarked is honest = refl
 is_whole_of (Room packets words left) is honest = absurd (cc (is))
-is_whole_of Broken is honest = absurd (cc (honest))
+is_whole_of (Broken why) is honest = absurd (cc (honest))
 
 -- the one that asks asks no more of the device than the other one has calls for, unless that one stops
 few_for : (a : Asking ChannelScript TableSeat Reply) (s : Serving ChannelScript DeviceSeat TableSeat Ask Reply) (asked : WorkerDone) → PlansAgree a s → LeavesAsked a asked → s.stops ≡ false → length (filter (is_asked (format_of s.responder.protocol.kind)) (sent_of (items_in asked.end))) ≤ s.serve
 few_for a s asked agree leaves go =
     let kind = a.protocol.kind in
     let few = few_asked (format_of kind) (keeps kind) asked.ended (startup kind a.protocol.sub a.protocol.subs a.protocol.lists) (map Script a.protocol.asks) (items_in asked.end) asked.replies.items (start_is_fixed kind a.protocol.sub a.protocol.subs a.protocol.lists) leaves.asks in
-    omega (arith, ap (λ k. length (filter (is_asked (format_of k)) (sent_of (items_in asked.end)))) agree.kind, few, length-map a.protocol.asks Script, agree.calls go)
+    omega (arith, ap (λ k. length (filter (is_asked (format_of k)) (sent_of (items_in asked.end)))) agree.kind, few, length-map {B = Want} a.protocol.asks Script, agree.calls go)
 
 -- neither ended for want of room, or of a call
 both_whole : (a : Asking ChannelScript TableSeat Reply) (s : Serving ChannelScript DeviceSeat TableSeat Ask Reply) (asked served : WorkerDone) (lists : Lists) (side : Side) → BothLeave a s asked served lists side → (is_whole asked.ended ≡ true) × (is_whole served.ended ≡ true)
@@ -108,13 +105,13 @@ asks_all : (s : WireFormat Item Want Ask Reply) (how : Ended) (asks : List Want)
 asks_all s Marked asks past told whole by = by.0
 asks_all s PeerMarked asks past told whole by = by.0
 asks_all s (Room packets words left) asks past told whole by = absurd (cc (whole))
-asks_all s Broken asks past told whole by = absurd (cc (whole))
+asks_all s (Broken why) asks past told whole by = absurd (cc (whole))
 
 ends_all : (s : WireFormat Item Want Ask Reply) (besides : Bool) (how : Ended) (w : Serving ChannelScript DeviceSeat TableSeat Ask Reply) (e : Line TableSeat) (calls : List Served) → is_whole how ≡ true → EndsBy s besides how w e calls → EndsAll s w e.state.past calls
 ends_all s besides Marked w e calls whole by = by.0
 ends_all s besides PeerMarked w e calls whole by = by.0
 ends_all s besides (Room packets words left) w e calls whole by = absurd (cc (whole))
-ends_all s besides Broken w e calls whole by = absurd (cc (whole))
+ends_all s besides (Broken why) w e calls whole by = absurd (cc (whole))
 
 -- the end that asks, for what the phase orders
 asker_ends : (order : Order) (tells : BufferLists) (protocol : ChannelScript) (past : List (Event Item)) (told : List Reply) → protocol ≡ record { kind = order.kind; sub = order.sub; subs = order.subs; lists = tells; asks = order.asks } → AsksAll (format_of protocol.kind) (asks_of protocol) past told
@@ -166,7 +163,7 @@ own_from : (s : WireFormat Item Want Ask Reply) (besides : Bool) (how : Ended) (
 own_from s besides Marked w e calls by = by.2
 own_from s besides PeerMarked w e calls by = by.2
 own_from s besides (Room packets words left) w e calls by = by.1
-own_from s besides Broken w e calls by = by.1
+own_from s besides (Broken why) w e calls by = by.1
 
 messages_at : (order : Order) (lists : Lists) (past : List (Event Item)) → events_by (other (side_that_asks order.kind)) lists ≡ past → OwnFrom (format_of order.kind) 64 past → MessagesInTurn order lists
 messages_at order lists past did from =

@@ -10,7 +10,7 @@ use Rattle.channel_trace.specs.declared.event.Event.TheVariants.{Sent, Got, Empt
 use Rattle.channel_trace.specs.Runs.{sent_of}
 use Rattle.script_lines.specs.declared.line.Ask.{Ask}
 use Rattle.bus_script.specs.declared.outcome.Reply.{Reply}
-use Rattle.device_formats.specs.declared.want.Want.{Want}
+use Rattle.device_kinds.specs.Kinds.{DeviceWant as Want}
 use Rattle.channel_model.specs.WireFormat.{WireFormat}
 use Rattle.channel_model.specs.Asker.{Encoded, open_of, opened, requests_of, under, without}
 use Rattle.channel_model.specs.Acks.{OwnFrom, is_in, own_open, removed}

@@ -9,11 +9,9 @@ use Rattle.device_kinds.specs.Served.{Served}
 use Rattle.bus_model.specs.Channel.{IsChannelRun, served_count, is_held, other, replies_to, sent_by}
 use Rattle.script_lines.specs.declared.line.Ask.{Ask}
 use Rattle.bus_script.specs.declared.outcome.Reply.{Reply}
-use Rattle.device_formats.specs.Formats.{format_of, has_answer_on}
-use Rattle.device_formats.specs.ChannelScript.{ChannelScript}
-use Rattle.device_formats.specs.declared.want.Want.{Want}
-use Rattle.device_formats.specs.Wants.{IsAskable, no_lists}
-use Rattle.device_formats.specs.declared.buffer_lists.BufferLists.{BufferLists}
+use Rattle.device_kinds.specs.Formats.{format_of, has_answer_on, ChannelScript, no_lists}
+use Rattle.device_kinds.specs.Kinds.{DeviceWant as Want, IsAskable}
+use Rattle.device_wire.specs.declared.buffer_lists.BufferLists.{BufferLists}
 use Rattle.device_any.specs.Seats.{served_at, IsSameSeat}
 use Rattle.worker_pair.specs.Seats.{at_guest, at_host}
 use Rattle.worker_pair.specs.Pairs.{ArePair}
@@ -137,7 +135,7 @@ abbrev pub is_whole : Ended → Bool
 is_whole Marked = true
 is_whole PeerMarked = true
 is_whole (Room packets words left) = false
-is_whole Broken = false
+is_whole (Broken why) = false
 
 -- the seat of the worker that served, later
 pub record ComesBack (seat : DeviceSeat) (back : Option DeviceSeat) : Type 0 where

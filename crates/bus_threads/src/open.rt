@@ -10,7 +10,7 @@ use bus_script::Ask;
 use chan_state::Stop;
 use contact::DeviceKind;
 use device_any::DeviceSeat;
-use device_formats::BufferLists;
+use device_wire::BufferLists;
 use ring_seat::ChannelMem;
 use std::alloc::{AllocError, Global};
 use worker_pair::{ChannelPlan, GuestWorker, HostWorker, make_both};
@@ -31,7 +31,7 @@ fn data_pages(kind: DeviceKind, window: u32) -> u32
     match kind {
         DeviceKind::Disk => window,
         DeviceKind::Net => 128,
-        DeviceKind::Beat | DeviceKind::Down => 0,
+        DeviceKind::Beat | DeviceKind::Down | DeviceKind::Kvp => 0,
     }
 }
 

@@ -1,3 +1,4 @@
+pub mod KindLaws
 pub mod SeatLaws
 pub mod Histories
 pub mod Growing

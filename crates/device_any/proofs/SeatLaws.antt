@@ -4,15 +4,15 @@ use Rattle.std.specs.Prelude.{nat_le, nat_lt, ◌&&◌, Result, Ok}
 use Rattle.std.specs.List.{AllByRecursion, list_all}
 use Rattle.std.proofs.lemmas.Bool.Decides.{nat_tests}
 use Rattle.hist_lock.specs.Seat.{Seat, IsSame}
-use Rattle.device_formats.specs.Services.{service_fits}
-use Rattle.device_formats.specs.Disks.{disk_fits}
-use Rattle.device_formats.specs.Formats.{fits_on}
+use Rattle.ic_format.specs.Services.{service_fits}
+use Rattle.disk_format.specs.Disks.{disk_fits}
+use Rattle.device_kinds.specs.Formats.{fits_on}
 use Rattle.script_lines.specs.declared.line.Ask.{Ask}
-use Rattle.script_lines.specs.declared.line.Ask.TheVariants.{Ic as AskIc, Disk as AskDisk, Net as AskNet}
-use Rattle.bus_script.specs.declared.outcome.Reply.TheVariants.{Ic as ReplyIc, Disk as ReplyDisk, Net as ReplyNet}
+use Rattle.script_lines.specs.declared.line.Ask.TheVariants.{Ic as AskIc, Disk as AskDisk, Net as AskNet, Kvp as AskKvp}
+use Rattle.bus_script.specs.declared.outcome.Reply.TheVariants.{Ic as ReplyIc, Disk as ReplyDisk, Net as ReplyNet, Kvp as ReplyKvp}
 use Rattle.util_ic.specs.Machines.{beat_reply, down_reply}
 use Rattle.contact.specs.declared.kind.DeviceKind.{DeviceKind}
-use Rattle.contact.specs.declared.kind.DeviceKind.TheVariants.{Beat as KindBeat, Down as KindDown, Disk as KindDisk, Net as KindNet}
+use Rattle.contact.specs.declared.kind.DeviceKind.TheVariants.{Beat as KindBeat, Down as KindDown, Disk as KindDisk, Net as KindNet, Kvp as KindKvp}
 use Rattle.scsi_disk.specs.DiskModel.{IsSized, most_back}
 use Rattle.scsi_disk.specs.Commands.{command_of}
 use Rattle.scsi_disk.specs.FiniteMap.{Kept}
@@ -24,15 +24,19 @@ use Rattle.rndis_msg.specs.declared.fault.RndisFault.{RndisFault}
 use Rattle.net_dev.specs.declared.reply.NetReply.{NetReply}
 use Rattle.net_dev.specs.declared.station.Station.{Station}
 use Rattle.net_dev.specs.Station.{Keeps as StationKeeps}
-use Rattle.device_formats.proofs.FormatLaws.{net_reply_fits}
+use Rattle.device_kinds.proofs.KindLaws.{net_reply_fits, kvp_reply_fits}
+use Rattle.kvp_pool.specs.Pools.{Pairs}
+use Rattle.kvp_ic.specs.declared.message.Kvp.{Kvp as Message}
+use Rattle.kvp_ic.specs.declared.message.KvpReply.{KvpReply}
+use Rattle.kvp_ic.specs.Machine.{IsReplyTo}
 use Rattle.util_ic.specs.declared.ic.IcAsk.{IcAsk}
 use Rattle.util_ic.specs.declared.ic.IcAnswer.{IcAnswer}
 use Rattle.util_ic.specs.Asks.{reply_of}
 use Rattle.util_ic.specs.declared.beat.BeatMachine.{BeatMachine}
 use Rattle.util_ic.specs.declared.down.DownMachine.{DownMachine}
-use Rattle.device_any.specs.Seats.{IsSameSeat, Place, place_of, DevicePlace, BeatPlace, DownPlace, DiskPlace, NetPlace, device_place, kind_at}
+use Rattle.device_any.specs.Seats.{IsSameSeat, Place, place_of, DevicePlace, BeatPlace, DownPlace, DiskPlace, NetPlace, KvpPlace, device_place, kind_at}
 use Rattle.device_any.specs.declared.device_seat.DeviceSeat.{DeviceSeat}
-use Rattle.device_any.specs.declared.device_seat.DeviceSeat.TheVariants.{Beat, Down, Disk, Net}
+use Rattle.device_any.specs.declared.device_seat.DeviceSeat.TheVariants.{Beat, Down, Disk, Net, Kvp}
 
 -- a seat that keeps its place is the same one
 
@@ -51,6 +55,10 @@ disk_in d _ = d
 net_in : Place Station (Result Rndis RndisFault) NetReply → DevicePlace → Place Station (Result Rndis RndisFault) NetReply
 net_in d (NetPlace p) = p
 net_in d _ = d
+
+kvp_in : Place (List Pairs) Message KvpReply → DevicePlace → Place (List Pairs) Message KvpReply
+kvp_in d (KvpPlace p) = p
+kvp_in d _ = d
 
 same : {S Q A : Type 0} (s t : Seat S Q A) → place_of t ≡ place_of s → IsSame s t
 same s t is = record { lock = ap (λ p. p.lock) is; number = ap (λ p. p.number) is }
@@ -71,11 +79,16 @@ pub same_net : (s t : Seat Station (Result Rndis RndisFault) NetReply) → IsSam
 unfolding net_in
 same_net s t is = same s t (ap (net_in (place_of s)) is)
 
+pub same_kvp : (s t : Seat (List Pairs) Message KvpReply) → IsSameSeat (Kvp s) (Kvp t) → IsSame s t
+unfolding kvp_in
+same_kvp s t is = same s t (ap (kvp_in (place_of s)) is)
+
 kind_placed : DevicePlace → DeviceKind
 kind_placed (BeatPlace p) = KindBeat
 kind_placed (DownPlace p) = KindDown
 kind_placed (DiskPlace p) = KindDisk
 kind_placed (NetPlace p) = KindNet
+kind_placed (KvpPlace p) = KindKvp
 
 placed : (s : DeviceSeat) → kind_placed (device_place s) ≡ kind_at s
 unfolding kind_placed
@@ -83,6 +96,7 @@ placed (Beat s) = refl
 placed (Down s) = refl
 placed (Disk s) = refl
 placed (Net s) = refl
+placed (Kvp s) = refl
 
 -- and it is of the same kind
 pub same_kind : (s t : DeviceSeat) → IsSameSeat s t → kind_at t ≡ kind_at s
@@ -131,3 +145,7 @@ disk_fits_on s kind q seat ask r is serves asked fits =
 pub net_fits_on : (s : DeviceSeat) (kind : DeviceKind) (q : Ask) (seat : Seat Station (Result Rndis RndisFault) NetReply) (ask : Rndis) (r : NetReply) → s ≡ Net seat → kind_at s ≡ kind → q ≡ AskNet ask → StationKeeps (Ok ask) r → fits_on kind q (ReplyNet r.status r.back) ≡ true
 net_fits_on s kind q seat ask r is serves asked fits =
     subst (λ k. fits_on k q (ReplyNet r.status r.back) ≡ true) (sym (ap kind_at is) ∙ serves) (subst (λ x. fits_on KindNet x (ReplyNet r.status r.back) ≡ true) (sym asked) (net_reply_fits ask r fits))
+
+pub kvp_fits_on : (s : DeviceSeat) (kind : DeviceKind) (q : Ask) (seat : Seat (List Pairs) Message KvpReply) (ask : Message) (r : KvpReply) → s ≡ Kvp seat → kind_at s ≡ kind → q ≡ AskKvp ask → IsReplyTo ask r → fits_on kind q (ReplyKvp r) ≡ true
+kvp_fits_on s kind q seat ask r is serves asked fits =
+    subst (λ k. fits_on k q (ReplyKvp r) ≡ true) (sym (ap kind_at is) ∙ serves) (subst (λ x. fits_on KindKvp x (ReplyKvp r) ≡ true) (sym asked) (kvp_reply_fits ask r fits))

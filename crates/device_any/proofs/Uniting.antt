@@ -4,7 +4,7 @@ use Rattle.std.specs.Prelude.{map}
 use Rattle.std.specs.Option.{option_map, option_map_or}
 use Rattle.std.proofs.lemmas.List.{append-nil}
 use Rattle.contact.specs.declared.kind.DeviceKind.{DeviceKind}
-use Rattle.contact.specs.declared.kind.DeviceKind.TheVariants.{Beat as KindBeat, Down as KindDown, Disk as KindDisk, Net as KindNet}
+use Rattle.contact.specs.declared.kind.DeviceKind.TheVariants.{Beat as KindBeat, Down as KindDown, Disk as KindDisk, Net as KindNet, Kvp as KindKvp}
 use Rattle.device_kinds.specs.Logs.{Grows, log_by, served_by}
 use Rattle.script_lines.specs.Parts.{kind_of}
 use Rattle.script_lines.specs.declared.line.DeviceSpec.{DeviceSpec}
@@ -17,16 +17,16 @@ use Rattle.hist_lock.proofs.Rows.{new_all}
 use Rattle.scsi_disk.specs.DiskModel.{DiskState}
 use Rattle.scsi_disk.specs.FiniteMap.{Kept, unwritten, stands_for}
 use Rattle.net_dev.specs.declared.station.Station.{Station}
-use Rattle.device_any.specs.Boxes.{AreSeatsBy, CanUniteBox, ComesBack, EachWith, GoesOn, IsKept, IsKeptBy, IsOpen, UnitesBox, UnitesBy, Working, beats, box_log, disks, downs, is_open, kind_in, nets, seats_in, spec_of}
+use Rattle.device_any.specs.Boxes.{AreSeatsBy, CanUniteBox, ComesBack, EachWith, GoesOn, IsKept, IsKeptBy, IsOpen, UnitesBox, UnitesBy, Working, beats, box_log, disks, downs, is_open, kind_in, nets, pairs, seats_in, spec_of}
 use Rattle.device_any.specs.MachineBoxes.{CanUnite, is_shared, own_seats, past_in, state_in}
 use Rattle.device_any.specs.Seats.{IsSameSeat, served_at}
 use Rattle.device_any.specs.declared.device_box.DeviceBox.{DeviceBox}
-use Rattle.device_any.specs.declared.device_box.DeviceBox.TheVariants.{Beat as BeatBox, Down as DownBox, Disk as DiskBox, Net as NetBox}
+use Rattle.device_any.specs.declared.device_box.DeviceBox.TheVariants.{Beat as BeatBox, Down as DownBox, Disk as DiskBox, Net as NetBox, Kvp as KvpBox}
 use Rattle.device_any.specs.declared.device_seat.DeviceSeat.{DeviceSeat}
 use Rattle.device_any.specs.declared.machine_box.MachineBox.{MachineBox}
 use Rattle.device_any.specs.declared.machine_box.MachineBox.TheVariants.{Whole, Shared, Empty}
 use Rattle.device_any.proofs.ManySeats.{grows_all}
-use Rattle.device_any.proofs.SeatLaws.{same_beat, same_down, same_disk, same_net}
+use Rattle.device_any.proofs.SeatLaws.{same_beat, same_down, same_disk, same_net, same_kvp}
 
 -- seats of one lock, after their calls
 
@@ -146,12 +146,14 @@ kept_here (BeatBox own) kept = let here = whole_here beats own kept in (ap (λ b
 kept_here (DownBox own) kept = let here = whole_here downs own kept in (ap (λ b. cond b (Some KindDown) None) here.0, ap (map downs.seat) here.1)
 kept_here (DiskBox subs own) kept = let here = whole_here disks own kept in (ap (λ b. cond b (Some KindDisk) None) here.0, ap (map disks.seat) here.1)
 kept_here (NetBox own) kept = let here = whole_here nets own kept in (ap (λ b. cond b (Some KindNet) None) here.0, ap (map nets.seat) here.1)
+kept_here (KvpBox own) kept = let here = whole_here pairs own kept in (ap (λ b. cond b (Some KindKvp) None) here.0, ap (map pairs.seat) here.1)
 
 pub can_kept : (box : DeviceBox) → IsKept box → CanUniteBox box
 can_kept (BeatBox own) kept = can_whole beats own kept
 can_kept (DownBox own) kept = can_whole downs own kept
 can_kept (DiskBox subs own) kept = can_whole disks own kept
 can_kept (NetBox own) kept = can_whole nets own kept
+can_kept (KvpBox own) kept = can_whole pairs own kept
 
 kept_stays : (old new : DeviceBox) → IsKept old → UnitesBox old new → (new ≡ old) × (seats_in old ≡ [])
 kept_stays (BeatBox own) (BeatBox new) kept unites = let stays = whole_stays beats own new kept unites in (ap BeatBox stays.0, ap (map beats.seat) stays.1)
@@ -159,6 +161,7 @@ kept_stays (DownBox own) (DownBox new) kept unites = let stays = whole_stays dow
 kept_stays (DiskBox subs own) (DiskBox subs' new) kept unites =
     let stays = whole_stays disks own new kept unites.1 in (ap (λ n. DiskBox n new) unites.0 ∙ ap (DiskBox subs) stays.0, ap (map disks.seat) stays.1)
 kept_stays (NetBox own) (NetBox new) kept unites = let stays = whole_stays nets own new kept unites in (ap NetBox stays.0, ap (map nets.seat) stays.1)
+kept_stays (KvpBox own) (KvpBox new) kept unites = let stays = whole_stays pairs own new kept unites in (ap KvpBox stays.0, ap (map pairs.seat) stays.1)
 kept_stays _ _ kept unites = absurd unites
 
 -- a device that its channels have
@@ -180,6 +183,7 @@ can_unite (BeatBox old) (q ∷ quotas) given (BeatBox held) back = can_by beats 
 can_unite (DownBox old) (q ∷ quotas) given (DownBox held) back = can_by downs same_down (λ s. refl) q quotas given old held back.2 back.3
 can_unite (DiskBox subs old) (q ∷ quotas) given (DiskBox subs' held) back = can_by disks same_disk (λ s. refl) q quotas given old held back.2 back.3
 can_unite (NetBox old) (q ∷ quotas) given (NetBox held) back = can_by nets same_net (λ s. refl) q quotas given old held back.2 back.3
+can_unite (KvpBox old) (q ∷ quotas) given (KvpBox held) back = can_by pairs same_kvp (λ s. refl) q quotas given old held back.2 back.3
 can_unite _ (q ∷ quotas) given _ back = absurd (cc (back.0))
 
 -- and its history went on: no request changes how many blocks a disk has and which of its places are bad, nor an adapter's addresses
@@ -209,8 +213,12 @@ goes_on (NetBox old) (q ∷ quotas) given (NetBox held) (NetBox new) back unites
     let again = again_by nets same_net (λ s. refl) q quotas given old held new back.2 back.3 unites in
     let spec : Option Station → DeviceSpec = λ o. Net (option_map_or (λ (s : Station). s.mac) o []) (option_map_or (λ (s : Station). s.station) o []) in
     record { grows = again.grows; spec = ap spec again.is_in ∙ (ap (λ (s : Station). Net s.mac s.station) again.setup ∙ sym (ap spec again.was_in)); setup = refl; kept = again.kept }
+goes_on (KvpBox old) (q ∷ quotas) given (KvpBox held) (KvpBox new) back unites =
+    let again = again_by pairs same_kvp (λ s. refl) q quotas given old held new back.2 back.3 unites in
+    record { grows = again.grows; spec = refl; setup = refl; kept = again.kept }
 goes_on (BeatBox old) (q ∷ quotas) given (BeatBox held) _ back unites = absurd unites
 goes_on (DownBox old) (q ∷ quotas) given (DownBox held) _ back unites = absurd unites
 goes_on (DiskBox subs old) (q ∷ quotas) given (DiskBox held_subs held) _ back unites = absurd unites
 goes_on (NetBox old) (q ∷ quotas) given (NetBox held) _ back unites = absurd unites
+goes_on (KvpBox old) (q ∷ quotas) given (KvpBox held) _ back unites = absurd unites
 goes_on _ (q ∷ quotas) given _ new back unites = absurd (cc (back.0))

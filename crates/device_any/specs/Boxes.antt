@@ -3,11 +3,11 @@ use Rattle.std.specs.Prelude.{ℕ, ◌≡◌, List, [], ◌∷◌, map, Bool, tr
 use Rattle.std.specs.Option.{option_map, option_map_or}
 use Rattle.contact.specs.declared.kind.DeviceKind.{DeviceKind}
 use Rattle.device_kinds.specs.Served.{Served}
-use Rattle.device_kinds.specs.Logs.{Recorded, Logged, Grows, ic_calls, disk_calls, net_calls, log_by}
+use Rattle.device_kinds.specs.Logs.{Recorded, Logged, Grows, ic_calls, disk_calls, net_calls, kvp_calls, log_by}
 use Rattle.script_lines.specs.Parts.{kind_of}
 use Rattle.script_phases.specs.Openings.{subs_of}
 use Rattle.script_lines.specs.declared.line.DeviceSpec.{DeviceSpec}
-use Rattle.script_lines.specs.declared.line.DeviceSpec.TheVariants.{Beat, Down, Disk, Net}
+use Rattle.script_lines.specs.declared.line.DeviceSpec.TheVariants.{Beat, Down, Disk, Net, Kvp}
 use Rattle.hist_lock.specs.Seat.{Seat}
 use Rattle.scsi_disk.specs.DiskModel.{DiskState, new_disk, disk_reply}
 use Rattle.scsi_disk.specs.FiniteMap.{Kept, unwritten, kept_after, stands_for}
@@ -18,6 +18,10 @@ use Rattle.util_ic.specs.declared.beat.BeatMachine.{BeatMachine}
 use Rattle.util_ic.specs.declared.down.DownMachine.{DownMachine}
 use Rattle.util_ic.specs.declared.ic.IcAsk.{IcAsk}
 use Rattle.util_ic.specs.declared.ic.IcAnswer.{IcAnswer}
+use Rattle.kvp_pool.specs.Pools.{Pairs}
+use Rattle.kvp_ic.specs.declared.message.Kvp.{Kvp as Message}
+use Rattle.kvp_ic.specs.declared.message.KvpReply.{KvpReply}
+use Rattle.kvp_ic.specs.Machine.{new_pools, pools_after, pools_reply}
 use Rattle.rndis_msg.specs.declared.rndis.Rndis.{Rndis}
 use Rattle.rndis_msg.specs.declared.fault.RndisFault.{RndisFault}
 use Rattle.net_dev.specs.declared.reply.NetReply.{NetReply}
@@ -26,9 +30,9 @@ use Rattle.net_dev.specs.Station.{unfiltered, station_after, station_reply}
 use Rattle.device_any.specs.MachineBoxes.{AreSeatsOf, CanUnite, IsWhole, Unites, is_shared, own_seats, past_in, state_in}
 use Rattle.device_any.specs.Seats.{IsSameSeat}
 use Rattle.device_any.specs.declared.device_seat.DeviceSeat.{DeviceSeat}
-use Rattle.device_any.specs.declared.device_seat.DeviceSeat.TheVariants.{Beat as BeatSeat, Down as DownSeat, Disk as DiskSeat, Net as NetSeat}
+use Rattle.device_any.specs.declared.device_seat.DeviceSeat.TheVariants.{Beat as BeatSeat, Down as DownSeat, Disk as DiskSeat, Net as NetSeat, Kvp as KvpSeat}
 use Rattle.device_any.specs.declared.device_box.DeviceBox.{DeviceBox}
-use Rattle.device_any.specs.declared.device_box.DeviceBox.TheVariants.{Beat as BeatBox, Down as DownBox, Disk as DiskBox, Net as NetBox}
+use Rattle.device_any.specs.declared.device_box.DeviceBox.TheVariants.{Beat as BeatBox, Down as DownBox, Disk as DiskBox, Net as NetBox, Kvp as KvpBox}
 use Rattle.device_any.specs.declared.machine_box.MachineBox.{MachineBox}
 
 -- how the machine of a kind works, and its seats and its calls among those of all
@@ -51,12 +55,16 @@ disks = record { first = unwritten; after = kept_after; reply_to = λ s q. disk_
 abbrev pub nets : Working Station (Result Rndis RndisFault) NetReply
 nets = record { first = unfiltered; after = station_after; reply_to = station_reply; calls = net_calls; seat = NetSeat }
 
+abbrev pub pairs : Working (List Pairs) Message KvpReply
+pairs = record { first = λ s. new_pools; after = pools_after; reply_to = pools_reply; calls = kvp_calls; seat = KvpSeat }
+
 -- what the device is, where it stands here whole; of its kind and of its channels all is known, wherever it is
 abbrev pub spec_of : DeviceBox → DeviceSpec
 spec_of (BeatBox own) = Beat
 spec_of (DownBox own) = Down
 spec_of (DiskBox subs own) = Disk (option_map_or (λ s. s.blocks) (state_in own) 0) subs
 spec_of (NetBox own) = Net (option_map_or (λ s. s.mac) (state_in own) []) (option_map_or (λ s. s.station) (state_in own) [])
+spec_of (KvpBox own) = Kvp
 
 -- how many channels it has beside the first one
 abbrev pub subs_in : DeviceBox → ℕ
@@ -68,6 +76,7 @@ is_open (BeatBox own) = is_shared own
 is_open (DownBox own) = is_shared own
 is_open (DiskBox subs own) = is_shared own
 is_open (NetBox own) = is_shared own
+is_open (KvpBox own) = is_shared own
 
 abbrev pub IsOpen : DeviceBox → Type 0
 IsOpen box = is_open box ≡ true
@@ -82,6 +91,7 @@ box_log (BeatBox own) = log_by ic_calls (past_in own)
 box_log (DownBox own) = log_by ic_calls (past_in own)
 box_log (DiskBox subs own) = log_by disk_calls (past_in own)
 box_log (NetBox own) = log_by net_calls (past_in own)
+box_log (KvpBox own) = log_by kvp_calls (past_in own)
 
 -- the seats that stand here, in order
 abbrev pub seats_in : DeviceBox → List DeviceSeat
@@ -89,6 +99,7 @@ seats_in (BeatBox own) = map BeatSeat (own_seats own)
 seats_in (DownBox own) = map DownSeat (own_seats own)
 seats_in (DiskBox subs own) = map DiskSeat (own_seats own)
 seats_in (NetBox own) = map NetSeat (own_seats own)
+seats_in (KvpBox own) = map KvpSeat (own_seats own)
 
 -- the disk that it was at first, if it is one
 abbrev pub setup_of : DeviceBox → Option DiskState
@@ -109,6 +120,7 @@ IsKept (BeatBox own) = IsKeptBy beats own
 IsKept (DownBox own) = IsKeptBy downs own
 IsKept (DiskBox subs own) = IsKeptBy disks own
 IsKept (NetBox own) = IsKeptBy nets own
+IsKept (KvpBox own) = IsKeptBy pairs own
 
 -- a device like this, with these bad places, that has served nothing
 pub record IsFresh (spec : DeviceSpec) (bad : List ℕ) (box : DeviceBox) : Type 0 where
@@ -126,6 +138,7 @@ AreSeatsFor (BeatBox own) quotas seats = AreSeatsBy beats own quotas seats
 AreSeatsFor (DownBox own) quotas seats = AreSeatsBy downs own quotas seats
 AreSeatsFor (DiskBox subs own) quotas seats = AreSeatsBy disks own quotas seats
 AreSeatsFor (NetBox own) quotas seats = AreSeatsBy nets own quotas seats
+AreSeatsFor (KvpBox own) quotas seats = AreSeatsBy pairs own quotas seats
 
 -- none of its seats stands here, or all do
 abbrev pub CanUniteBox : DeviceBox → Type 0
@@ -133,6 +146,7 @@ CanUniteBox (BeatBox own) = CanUnite own
 CanUniteBox (DownBox own) = CanUnite own
 CanUniteBox (DiskBox subs own) = CanUnite own
 CanUniteBox (NetBox own) = CanUnite own
+CanUniteBox (KvpBox own) = CanUnite own
 
 -- it is whole again, where it was open, and else as it was
 abbrev pub UnitesBy : {S Q A : Type 0} → Working S Q A → MachineBox S Q A → MachineBox S Q A → Type 0
@@ -143,6 +157,7 @@ UnitesBox (BeatBox old) (BeatBox new) = UnitesBy beats old new
 UnitesBox (DownBox old) (DownBox new) = UnitesBy downs old new
 UnitesBox (DiskBox subs old) (DiskBox subs' new) = (subs' ≡ subs) × UnitesBy disks old new
 UnitesBox (NetBox old) (NetBox new) = UnitesBy nets old new
+UnitesBox (KvpBox old) (KvpBox new) = UnitesBy pairs old new
 UnitesBox _ _ = ⊥
 
 -- P of the items of two lists, one by one

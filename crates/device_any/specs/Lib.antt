@@ -1,3 +1,4 @@
 pub mod Seats
 pub mod MachineBoxes
 pub mod Boxes
+pub mod Heads

@@ -9,6 +9,7 @@ ghost use Rattle.device_any.specs.Boxes.{AreSeatsFor, CanUniteBox, IsFresh, IsKe
 use crate::{DeviceSeat, MachineBox};
 use bus_script::DeviceSpec;
 use device_kinds::DeviceHistory;
+use kvp_ic::KvpMachine;
 use net_dev::Station;
 use scsi_disk::Disk;
 use std::alloc::{AllocError, Global};
@@ -30,6 +31,8 @@ pub enum DeviceBox {
     },
     /// A network's adapter.
     Net(MachineBox<Station>),
+    /// A key-value service.
+    Kvp(MachineBox<KvpMachine>),
 }
 
 // What is done with the machine of a device, whatever its kind.
@@ -43,6 +46,7 @@ macro_rules! each_box {
                 disk: $own,
             } => $call,
             DeviceBox::Net($own) => $call,
+            DeviceBox::Kvp($own) => $call,
         }
     };
 }
@@ -65,6 +69,10 @@ impl DeviceBox {
                 alloc,
                 Station::make(mac, station),
             )?)),
+            DeviceSpec::Kvp => {
+                let machine = KvpMachine::make(alloc)?;
+                Ok(DeviceBox::Kvp(MachineBox::make(alloc, machine)?))
+            }
         }
     }
 
@@ -103,6 +111,7 @@ impl DeviceBox {
             DeviceBox::Down(own) => DeviceSeat::Down(own.take_first()),
             DeviceBox::Disk { subs: _, disk: own } => DeviceSeat::Disk(own.take_first()),
             DeviceBox::Net(own) => DeviceSeat::Net(own.take_first()),
+            DeviceBox::Kvp(own) => DeviceSeat::Kvp(own.take_first()),
         }
     }
 
@@ -119,6 +128,7 @@ impl DeviceBox {
             (DeviceBox::Down(own), DeviceSeat::Down(seat)) => own.give_back(seat),
             (DeviceBox::Disk { subs: _, disk: own }, DeviceSeat::Disk(seat)) => own.give_back(seat),
             (DeviceBox::Net(own), DeviceSeat::Net(seat)) => own.give_back(seat),
+            (DeviceBox::Kvp(own), DeviceSeat::Kvp(seat)) => own.give_back(seat),
             (_, _) => unreachable!(),
         }
     }
@@ -143,6 +153,7 @@ impl DeviceBox {
             DeviceBox::Down(own) => DeviceHistory::Down(own.into_history()),
             DeviceBox::Disk { subs: _, disk: own } => DeviceHistory::Disk(own.into_history()),
             DeviceBox::Net(own) => DeviceHistory::Net(own.into_history()),
+            DeviceBox::Kvp(own) => DeviceHistory::Kvp(own.into_history()),
         }
     }
 }

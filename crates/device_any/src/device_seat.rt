@@ -1,14 +1,15 @@
 //! The seat of a device at its channel.
 ghost use Rattle.std.specs.Prelude.{◌≡◌, true, is_some};
-ghost use Rattle.script_lines.specs.declared.line.Ask.TheVariants.{Ic as AskedIc, Disk as AskedDisk, Net as AskedNet};
-ghost use Rattle.device_formats.specs.Kinds.{ic_request, disk_request, net_request};
+ghost use Rattle.script_lines.specs.declared.line.Ask.TheVariants.{Ic as AskedIc, Disk as AskedDisk, Net as AskedNet, Kvp as AskedKvp};
+ghost use Rattle.device_kinds.specs.Kinds.{ic_request, disk_request, net_request, kvp_request};
 ghost use Rattle.device_any.specs.Seats.{kind_at};
 
+use crate::DeviceProtocol;
 use bus_script::{Ask, Reply};
 use channel_protocol::Device;
 use contact::DeviceKind;
-use device_protocols::DeviceProtocol;
 use hist_lock::HistSeat;
+use kvp_ic::{Kvp, KvpMachine};
 use net_dev::{NetReply, Station};
 use rndis_msg::Rndis;
 use scsi_disk::{Disk, DiskRequest};
@@ -22,6 +23,7 @@ pub enum DeviceSeat {
     Down(HistSeat<DownMachine>),
     Disk(HistSeat<Disk>),
     Net(HistSeat<Station>),
+    Kvp(HistSeat<KvpMachine>),
 }
 
 // The request of a service.
@@ -57,6 +59,17 @@ fn message_of(request: Ask) -> Rndis
     message
 }
 
+// The request of a key-value service.
+fn pair_of(request: Ask) -> Kvp
+    requires { is_some (kvp_request request) ≡ true }
+    ensures { request ≡ AskedKvp result }
+{
+    let Ask::Kvp(request) = request else {
+        unreachable!()
+    };
+    request
+}
+
 impl DeviceSeat {
     /// The kind of the seat's device.
     pub fn kind(&self) -> DeviceKind
@@ -67,6 +80,7 @@ impl DeviceSeat {
             DeviceSeat::Down(_) => DeviceKind::Down,
             DeviceSeat::Disk(_) => DeviceKind::Disk,
             DeviceSeat::Net(_) => DeviceKind::Net,
+            DeviceSeat::Kvp(_) => DeviceKind::Kvp,
         }
     }
 }
@@ -94,6 +108,7 @@ impl Device<DeviceProtocol> for DeviceSeat {
             DeviceSeat::Down(seat) => seat.left(),
             DeviceSeat::Disk(seat) => seat.left(),
             DeviceSeat::Net(seat) => seat.left(),
+            DeviceSeat::Kvp(seat) => seat.left(),
         }
     }
 
@@ -116,6 +131,10 @@ impl Device<DeviceProtocol> for DeviceSeat {
                 let receipt = seat.with(rt, Ok(message_of(request)));
                 let NetReply { status, back } = receipt.reply;
                 return (receipt.serial, Reply::Net { status, back });
+            }
+            DeviceSeat::Kvp(seat) => {
+                let receipt = seat.with(rt, pair_of(request));
+                return (receipt.serial, Reply::Kvp(receipt.reply));
             }
         }
     }

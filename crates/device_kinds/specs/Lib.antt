@@ -1,2 +1,4 @@
 pub mod Served
 pub mod Logs
+pub mod Kinds
+pub mod Formats

@@ -1,12 +1,12 @@
 -- Histories of all kinds of devices, as lists of one type.
 use Rattle.std.specs.Prelude.{ℕ, ◌≡◌, ◌+◌, ◌==◌, List, [], ◌∷◌, ◌++◌, length, map, Result, if◌then◌else◌}
 use Rattle.script_lines.specs.declared.line.Ask.{Ask}
-use Rattle.script_lines.specs.declared.line.Ask.TheVariants.{Ic as AskIc, Disk as AskDisk}
+use Rattle.script_lines.specs.declared.line.Ask.TheVariants.{Ic as AskIc, Disk as AskDisk, Kvp as AskKvp}
 use Rattle.script_lines.specs.declared.line.Line.{Line}
 use Rattle.bus_script.specs.declared.outcome.Reply.{Reply}
-use Rattle.bus_script.specs.declared.outcome.Reply.TheVariants.{Ic as ReplyIc, Disk as ReplyDisk, Net as ReplyNet}
+use Rattle.bus_script.specs.declared.outcome.Reply.TheVariants.{Ic as ReplyIc, Disk as ReplyDisk, Net as ReplyNet, Kvp as ReplyKvp}
 use Rattle.script_lines.specs.declared.line.DeviceSpec.{DeviceSpec}
-use Rattle.script_lines.specs.declared.line.DeviceSpec.TheVariants.{Beat, Down, Disk, Net}
+use Rattle.script_lines.specs.declared.line.DeviceSpec.TheVariants.{Beat, Down, Disk, Net, Kvp}
 use Rattle.script_lines.specs.Parts.{bads_of}
 use Rattle.hist_lock.specs.declared.history.Entry.{Entry}
 use Rattle.hist_lock.specs.Seat.{Call}
@@ -18,6 +18,9 @@ use Rattle.scsi_disk.specs.declared.reply.DiskReply.{DiskReply}
 use Rattle.util_ic.specs.declared.ic.IcAsk.{IcAsk}
 use Rattle.util_ic.specs.declared.ic.IcAnswer.{IcAnswer}
 use Rattle.util_ic.specs.Machines.{beat_start, beat_reply, down_start, down_reply}
+use Rattle.kvp_ic.specs.declared.message.Kvp.{Kvp as Message}
+use Rattle.kvp_ic.specs.declared.message.KvpReply.{KvpReply}
+use Rattle.kvp_ic.specs.Machine.{new_pools, pools_reply, pools_after}
 use Rattle.rndis_msg.specs.declared.rndis.Rndis.{Rndis}
 use Rattle.rndis_msg.specs.declared.fault.RndisFault.{RndisFault}
 use Rattle.net_dev.specs.declared.reply.NetReply.{NetReply}
@@ -25,7 +28,7 @@ use Rattle.net_dev.specs.declared.station.Station.{Station}
 use Rattle.net_dev.specs.Station.{station_reply, station_after}
 use Rattle.device_kinds.specs.Served.{Served, message_asked}
 use Rattle.device_kinds.specs.declared.history.DeviceHistory.{DeviceHistory}
-use Rattle.device_kinds.specs.declared.history.DeviceHistory.TheVariants.{Beat as BeatHistory, Down as DownHistory, Disk as DiskHistory, Net as NetHistory}
+use Rattle.device_kinds.specs.declared.history.DeviceHistory.TheVariants.{Beat as BeatHistory, Down as DownHistory, Disk as DiskHistory, Net as NetHistory, Kvp as KvpHistory}
 
 -- an entry of any device's history
 pub record Recorded : Type 0 where
@@ -47,6 +50,9 @@ disk_calls = record { asked = AskDisk; told = ReplyDisk }
 abbrev pub net_calls : Logged (Result Rndis RndisFault) NetReply
 net_calls = record { asked = message_asked; told = λ r. ReplyNet r.status r.back }
 
+abbrev pub kvp_calls : Logged Message KvpReply
+kvp_calls = record { asked = AskKvp; told = ReplyKvp }
+
 -- entries of one kind's history, and the calls of a seat of its, as those of any device
 abbrev pub log_by : {S Q A : Type 0} → Logged Q A → List (Entry S Q A) → List Recorded
 log_by m entries = map (λ e. record { seat = e.seat; ask = m.asked e.request; reply = m.told e.reply }) entries
@@ -59,6 +65,7 @@ log_of (BeatHistory h) = log_by ic_calls (entries_of h)
 log_of (DownHistory h) = log_by ic_calls (entries_of h)
 log_of (DiskHistory h) = log_by disk_calls (entries_of h)
 log_of (NetHistory h) = log_by net_calls (entries_of h)
+log_of (KvpHistory h) = log_by kvp_calls (entries_of h)
 
 -- what a seat served, where the first entry has this place
 abbrev pub served_from : ℕ → ℕ → List Recorded → List Served
@@ -86,13 +93,14 @@ pub record Grows (before after : List Recorded) (served : List (List Served)) : 
 abbrev pub new_station : List ℕ → List ℕ → Station
 new_station mac station = record { mac = mac; station = station; filter = 0 }
 
--- The history is legal for the device's machine, from its first state: a disk's blocks are zero, and these places are bad. A disk's states are those of
--- its model, all of its blocks.
+-- The history is legal for the device's machine, from its first state: a disk's blocks are zero, and these places are bad, and no pool of a key-value service has a pair. A
+-- disk's states are those of its model, all of its blocks.
 abbrev pub IsHistory : DeviceSpec → List ℕ → DeviceHistory → Type 0
 IsHistory Beat bad (BeatHistory h) = IsLegal (λ s q. s) (λ s q. beat_reply q) beat_start (entries_of h)
 IsHistory Down bad (DownHistory h) = IsLegal (λ s q. s) (λ s q. down_reply q) down_start (entries_of h)
 IsHistory (Disk blocks subs) bad (DiskHistory h) = IsLegal disk_after disk_reply (new_disk blocks bad) (entries_of h)
 IsHistory (Net mac station) bad (NetHistory h) = IsLegal station_after station_reply (new_station mac station) (entries_of h)
+IsHistory Kvp bad (KvpHistory h) = IsLegal pools_after pools_reply new_pools (entries_of h)
 IsHistory _ bad _ = ⊥
 
 -- one for each device from one on, in order of offer

@@ -1,5 +1,6 @@
 //! What one device served over the whole run.
 use hist_lock::History;
+use kvp_ic::KvpMachine;
 use net_dev::Station;
 use scsi_disk::Disk;
 use util_ic::{BeatMachine, DownMachine};
@@ -11,4 +12,5 @@ pub enum DeviceHistory {
     Down(History<DownMachine>),
     Disk(History<Disk>),
     Net(History<Station>),
+    Kvp(History<KvpMachine>),
 }

@@ -7,8 +7,8 @@ use crate::said::said;
 use bus_script::{Ask, Reply};
 use channel_protocol::Protocol;
 use contact::DeviceKind;
-use device_formats::BufferLists;
-use device_protocols::{DeviceProtocol, is_askable};
+use device_any::{DeviceProtocol, DeviceWire, is_askable};
+use device_wire::BufferLists;
 use hist_lock::Machine;
 use scsi_disk::{Chunk, Disk, DiskReply, DiskRequest};
 use std::alloc::Global;
@@ -31,7 +31,7 @@ fn protocol_of(
     }
     let mut asks = Vec::with_capacity(alloc, 1)?;
     asks.push(ask)?;
-    Ok(DeviceProtocol::make(kind, 0, 0, BufferLists::NONE, asks))
+    Ok(DeviceProtocol::make(DeviceWire::of(kind), 0, 0, BufferLists::NONE, asks))
 }
 
 /// Wants a packet of this first word and id with these first bytes of its payload, and zeros behind them up to 64 bytes.
@@ -86,7 +86,7 @@ fn starts(
 #[test]
 fn disks_start_up(rt: HostRuntime) -> Result<(), Fail> {
     let protocol = DeviceProtocol::make(
-        DeviceKind::Disk,
+        DeviceWire::of(DeviceKind::Disk),
         0,
         0,
         BufferLists::NONE,
@@ -138,7 +138,7 @@ fn disks_start_up(rt: HostRuntime) -> Result<(), Fail> {
 #[test]
 fn disks_ask_for_sub_channels(rt: HostRuntime) -> Result<(), Fail> {
     let first = DeviceProtocol::make(
-        DeviceKind::Disk,
+        DeviceWire::of(DeviceKind::Disk),
         0,
         3,
         BufferLists::NONE,
@@ -162,7 +162,7 @@ fn disks_ask_for_sub_channels(rt: HostRuntime) -> Result<(), Fail> {
         &[1, 0, 0, 0, 1, 0, 0, 0, 0, 0, 0, 0, 3],
     );
     let other = DeviceProtocol::make(
-        DeviceKind::Disk,
+        DeviceWire::of(DeviceKind::Disk),
         2,
         3,
         BufferLists::NONE,

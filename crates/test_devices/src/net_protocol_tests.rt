@@ -8,8 +8,8 @@ use crate::said::said_behind;
 use bus_script::{Ask, Reply};
 use channel_protocol::Protocol;
 use contact::DeviceKind;
-use device_formats::BufferLists;
-use device_protocols::{DeviceProtocol, is_askable};
+use device_any::{DeviceProtocol, DeviceWire, is_askable};
+use device_wire::BufferLists;
 use hist_lock::Machine;
 use net_dev::Station;
 use rndis_msg::{Rndis, Small};
@@ -33,7 +33,7 @@ fn net_protocol(rt: &impl Abort, alloc: Global, message: Option<Rndis>) -> Devic
         receive: 7,
         send: 8,
     };
-    DeviceProtocol::make(DeviceKind::Net, 0, 0, lists, asks)
+    DeviceProtocol::make(DeviceWire::of(DeviceKind::Net), 0, 0, lists, asks)
 }
 
 /// An init of version 5.0, and an NDIS version 6.30.

@@ -1,11 +1,11 @@
 //! What an answer says, on each kind of channel.
 ghost use Rattle.std.specs.Prelude.{◌≡◌, ◌≤◌, ◌<◌, ◌⊎◌, [], length};
 ghost use Rattle.ring_machine.specs.States.{IsPacket};
-ghost use Rattle.device_formats.specs.ChannelScript.{asks_of};
+ghost use Rattle.device_kinds.specs.Formats.{asks_of};
 
 use bus_script::Reply;
 use channel_protocol::Protocol;
-use device_protocols::DeviceProtocol;
+use device_any::DeviceProtocol;
 use std::alloc::Global;
 use std::process::Abort;
 

@@ -9,7 +9,7 @@ use crate::only_seat::only_seat;
 use bus_script::{Ask, Reply};
 use contact::DeviceKind;
 use device_any::DeviceSeat;
-use device_formats::BufferLists;
+use device_wire::BufferLists;
 use io_edge::NoGate;
 use ring_seat::ChannelMem;
 use std::alloc::AllocGlobal;

@@ -72,6 +72,7 @@ fn host_of(rt: &(impl Abort + AllocGlobal), end: HostEnd, window: u32) -> HostWo
         count: 2,
         stop: None,
         asks: Vec::new(alloc),
+        kvp: Vec::new(alloc),
     };
     HostWorker::make(alloc, end, HostSeat::Disk(seat), plan).expect(rt, "memory")
 }

@@ -56,6 +56,7 @@ fn host_of(rt: &(impl Abort + AllocGlobal), end: HostEnd) -> HostWorker
         count: 2,
         stop: None,
         asks: asks.to_vec(alloc).expect(rt, "memory"),
+        kvp: Vec::new(alloc),
     };
     HostWorker::make(alloc, end, HostSeat::None, plan).expect(rt, "memory")
 }
@@ -75,6 +76,7 @@ fn seq_of(reply: &Reply) -> Option<u64> {
         Reply::Ic(answer) => Some(answer.seq),
         Reply::Disk(_) => None,
         Reply::Net { .. } => None,
+        Reply::Kvp(_) => None,
     }
 }
 

@@ -13,7 +13,7 @@ use bus_threads::{Pair, PairDone, open_pair, run_pair, run_phase};
 use chan_state::Stop;
 use contact::DeviceKind;
 use device_any::DeviceSeat;
-use device_formats::BufferLists;
+use device_wire::BufferLists;
 use io_edge::NoGate;
 use net_dev::Station;
 use ring_core::Packets;
@@ -228,6 +228,7 @@ fn ic(rt: &impl Abort, reply: &Reply) -> (u32, u64) {
         Reply::Ic(answer) => (answer.status, answer.seq),
         Reply::Disk(_) => panic!(rt; "a disk replied"),
         Reply::Net { .. } => panic!(rt; "a network replied"),
+        Reply::Kvp(_) => panic!(rt; "a key-value service replied"),
     }
 }
 

@@ -4,9 +4,8 @@ use Rattle.ring_seat.specs.Seats.{told_in}
 use Rattle.ring_seat.specs.declared.table_seat.TableSeat.{TableSeat}
 use Rattle.script_lines.specs.declared.line.Ask.{Ask}
 use Rattle.bus_script.specs.declared.outcome.Reply.{Reply}
-use Rattle.device_formats.specs.Formats.{besides_on, format_of}
-use Rattle.device_formats.specs.Items.{said_item}
-use Rattle.device_formats.specs.ChannelScript.{ChannelScript, asks_of}
+use Rattle.device_kinds.specs.Formats.{besides_on, format_of, ChannelScript, asks_of}
+use Rattle.device_packets.specs.Said.{said_item}
 use Rattle.worker_port.specs.Line.{IsLine, Line, line_of}
 use Rattle.worker_port.specs.Rooms.{AskedWithin, AskLacksFor, ServedWithin, ServeLacksFor, is_broken}
 use Rattle.worker_port.specs.declared.ended.Ended.{Ended}
@@ -21,6 +20,7 @@ use Rattle.worker_server.proofs.ServeSteps.{ends_on, lacks_on, tried_on}
 use Rattle.worker_pair.specs.Leaving.{LeavesAsked, LeavesServed, StandsAsking, StandsServing, WorkerDone, items_in, told_at}
 use Rattle.device_any.specs.Seats.{served_at, device_place, left_at}
 use Rattle.device_any.specs.declared.device_seat.DeviceSeat.{DeviceSeat}
+use Rattle.ring_core.specs.Told.{tells_nothing}
 
 -- what it leaves is what was asked of it at its beginning
 pub served_on : (u v : Serving ChannelScript DeviceSeat TableSeat Ask Reply) (d : WorkerDone) → ServesOn (λ s t. device_place t ≡ device_place s) (λ (s : TableSeat). s.seat.table_id) (λ (s : TableSeat). Some (told_in s.seat.me.0)) u v → LeavesServed v d → LeavesServed u d
@@ -32,8 +32,8 @@ served_on u v d on leaves =
       tried = record {
         before = leaves.tried.before;
         same = record { seat = leaves.tried.same.seat ∙ on.end.seat; side = leaves.tried.same.side ∙ on.end.side; pages = leaves.tried.same.pages ∙ on.end.pages };
-        tried = tried_on (λ s t. device_place t ≡ device_place s) (λ (s : TableSeat). s.seat.table_id) (λ (s : TableSeat). Some (told_in s.seat.me.0)) (λ (s : TableSeat). None) (λ (t : ChannelScript). format_of t.kind) (λ (t : ChannelScript). besides_on t.kind) d.ended u v leaves.tried.before (line_of said_item d.end) (calls_behind u.responder.before (served_at leaves.back)) on
-            (subst (λ l. LeavesTried (λ (s : TableSeat). Some (told_in s.seat.me.0)) (λ (s : TableSeat). None) (format_of v.responder.protocol.kind) (besides_on v.responder.protocol.kind) d.ended v leaves.tried.before (line_of said_item d.end) (calls_behind l (served_at leaves.back))) on.before leaves.tried.tried);
+        tried = tried_on (λ s t. device_place t ≡ device_place s) (λ (s : TableSeat). s.seat.table_id) (λ (s : TableSeat). Some (told_in s.seat.me.0)) (λ (s : TableSeat). tells_nothing) (λ (t : ChannelScript). format_of t.kind) (λ (t : ChannelScript). besides_on t.kind) d.ended u v leaves.tried.before (line_of said_item d.end) (calls_behind u.responder.before (served_at leaves.back)) on
+            (subst (λ l. LeavesTried (λ (s : TableSeat). Some (told_in s.seat.me.0)) (λ (s : TableSeat). tells_nothing) (format_of v.responder.protocol.kind) (besides_on v.responder.protocol.kind) d.ended v leaves.tried.before (line_of said_item d.end) (calls_behind l (served_at leaves.back))) on.before leaves.tried.tried);
       };
       before = subst (λ l. take (length l) (served_at leaves.back) ≡ l) on.before leaves.before;
       serials = subst (λ l. d.serials.items ≡ map (λ c. c.serial) (calls_behind l (served_at leaves.back))) on.before leaves.serials;
@@ -61,7 +61,7 @@ asked_on u v d on leaves =
       tried = record {
         before = leaves.tried.before;
         same = record { seat = leaves.tried.same.seat ∙ on.end.seat; side = leaves.tried.same.side ∙ on.end.side; pages = leaves.tried.same.pages ∙ on.end.pages };
-        tried = subst (λ (t : ChannelScript). EndTried (λ (s : TableSeat). Some (told_in s.seat.me.0)) (λ (s : TableSeat). None) (format_of t.kind) d.ended leaves.tried.before (line_of said_item d.end)) on.protocol leaves.tried.tried;
+        tried = subst (λ (t : ChannelScript). EndTried (λ (s : TableSeat). Some (told_in s.seat.me.0)) (λ (s : TableSeat). tells_nothing) (format_of t.kind) d.ended leaves.tried.before (line_of said_item d.end)) on.protocol leaves.tried.tried;
       };
       seat = leaves.seat;
       serials = leaves.serials;
@@ -72,8 +72,8 @@ awake_of true never = absurd (never refl)
 awake_of false never = refl
 
 -- a turn in which the end that asks ended
-pub asked_stands : (how : Ended) (v w : Asking ChannelScript TableSeat Reply) → AsksOn (λ (s : TableSeat). s.seat.table_id) (λ (s : TableSeat). Some (told_in s.seat.me.0)) v w → AskCause (λ (s : TableSeat). Some (told_in s.seat.me.0)) (λ (s : TableSeat). None) (TurnEnded how) v.end w.end
-    → (v.end.state.machine.asleep ≡ false → EndTried (λ (s : TableSeat). Some (told_in s.seat.me.0)) (λ (s : TableSeat). None) (format_of w.protocol.kind) how v.end.end w.end) → AskTurns (format_of w.protocol.kind) (besides_on w.protocol.kind) (asks_of w.protocol) (TurnEnded how) w
+pub asked_stands : (how : Ended) (v w : Asking ChannelScript TableSeat Reply) → AsksOn (λ (s : TableSeat). s.seat.table_id) (λ (s : TableSeat). Some (told_in s.seat.me.0)) v w → AskCause (λ (s : TableSeat). Some (told_in s.seat.me.0)) (λ (s : TableSeat). tells_nothing) (TurnEnded how) v.end w.end
+    → (v.end.state.machine.asleep ≡ false → EndTried (λ (s : TableSeat). Some (told_in s.seat.me.0)) (λ (s : TableSeat). tells_nothing) (format_of w.protocol.kind) how v.end.end w.end) → AskTurns (format_of w.protocol.kind) (besides_on w.protocol.kind) (asks_of w.protocol) (TurnEnded how) w
     → AskEnds (format_of w.protocol.kind) (besides_on w.protocol.kind) w.starts (length w.table) (asks_of w.protocol) (TurnEnded how) w.end.state.past → is_broken how ≡ false → StandsAsking (Some how) w
 asked_stands how v w on cause tried turns room honest = (
   turns.0,
@@ -87,8 +87,8 @@ asked_stands how v w on cause tried turns room honest = (
 )
 
 -- and the end that serves
-pub served_stands : (how : Ended) (v w : Serving ChannelScript DeviceSeat TableSeat Ask Reply) → ServesOn (λ s t. device_place t ≡ device_place s) (λ (s : TableSeat). s.seat.table_id) (λ (s : TableSeat). Some (told_in s.seat.me.0)) v w → ServeCause (λ (s : TableSeat). Some (told_in s.seat.me.0)) (λ (s : TableSeat). None) (TurnEnded how) v.end w.end
-    → (v.end.state.machine.asleep ≡ false → LeavesTried (λ (s : TableSeat). Some (told_in s.seat.me.0)) (λ (s : TableSeat). None) (format_of w.responder.protocol.kind) (besides_on w.responder.protocol.kind) how w v.end.end w.end w.responder.calls)
+pub served_stands : (how : Ended) (v w : Serving ChannelScript DeviceSeat TableSeat Ask Reply) → ServesOn (λ s t. device_place t ≡ device_place s) (λ (s : TableSeat). s.seat.table_id) (λ (s : TableSeat). Some (told_in s.seat.me.0)) v w → ServeCause (λ (s : TableSeat). Some (told_in s.seat.me.0)) (λ (s : TableSeat). tells_nothing) (TurnEnded how) v.end w.end
+    → (v.end.state.machine.asleep ≡ false → LeavesTried (λ (s : TableSeat). Some (told_in s.seat.me.0)) (λ (s : TableSeat). tells_nothing) (format_of w.responder.protocol.kind) (besides_on w.responder.protocol.kind) how w v.end.end w.end w.responder.calls)
     → Turns left_at (format_of w.responder.protocol.kind) (besides_on w.responder.protocol.kind) (TurnEnded how) w → ServeEnds (format_of w.responder.protocol.kind) (besides_on w.responder.protocol.kind) (TurnEnded how) w → is_broken how ≡ false → StandsServing (Some how) w
 served_stands how v w on cause tried turns room honest = (
   turns.0,
@@ -115,7 +115,7 @@ asker_leaves w how d h ended line stands asks seat serials =
       paced = subst (λ (l : Line TableSeat). IsPaced s w.starts asked l.state.past) line h.3;
       ids = subst (λ (l : Line TableSeat). AskedFrom s (length w.table) asked l.state.past) line h.4;
       acks = subst (λ (p : Ended × Line TableSeat). EndsAcked s p.0 p.1) both h.5;
-      tried = subst (λ (p : Ended × Line TableSeat). AskerTried (λ (s : TableSeat). s.seat.table_id) told_at (λ (s : TableSeat). None) s p.0 w.end.end p.1) both h.7;
+      tried = subst (λ (p : Ended × Line TableSeat). AskerTried (λ (s : TableSeat). s.seat.table_id) told_at (λ (s : TableSeat). tells_nothing) s p.0 w.end.end p.1) both h.7;
       seat = seat;
       serials = serials;
     }
@@ -131,8 +131,8 @@ server_leaves w how d back h ended line stands seat is calls serials replies =
       back = back;
       seat = seat;
       serves = subst (λ (p : Ended × Line TableSeat). EndsBy s besides p.0 w p.1 (calls_behind w.responder.before (served_at back))) both (subst (EndsBy s besides how w w.end) (sym behind) h.0);
-      tried = subst (λ (p : Ended × Line TableSeat). ServerTried (λ (s : TableSeat). s.seat.table_id) told_at (λ (s : TableSeat). None) s besides p.0 w p.1 (calls_behind w.responder.before (served_at back))) both
-          (subst (ServerTried (λ (s : TableSeat). s.seat.table_id) told_at (λ (s : TableSeat). None) s besides how w w.end) (sym behind) h.4);
+      tried = subst (λ (p : Ended × Line TableSeat). ServerTried (λ (s : TableSeat). s.seat.table_id) told_at (λ (s : TableSeat). tells_nothing) s besides p.0 w p.1 (calls_behind w.responder.before (served_at back))) both
+          (subst (ServerTried (λ (s : TableSeat). s.seat.table_id) told_at (λ (s : TableSeat). tells_nothing) s besides how w w.end) (sym behind) h.4);
       before = front_is w.responder.before w.responder.before w.responder.calls (served_at back) calls refl;
       serials = serials ∙ ap (map (λ c. c.serial)) (sym behind);
       end = record { seat = ap (λ (l : Line TableSeat). l.end.seat.seat.table_id) (sym line); side = ap (λ (l : Line TableSeat). l.end.state.machine.side) (sym line); pages = ap (λ (l : Line TableSeat). l.end.state.pages.count) (sym line) };

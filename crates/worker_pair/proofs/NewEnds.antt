@@ -3,12 +3,12 @@ use Rattle.std.proofs.Common.{◌≡◌, ◌≢◌, ◌≤◌, ℕ, true, false,
 use Rattle.io_edge.specs.declared.side.Side.{Side}
 use Rattle.io_edge.specs.declared.side.Side.TheVariants.{Guest, Host}
 use Rattle.contact.specs.declared.kind.DeviceKind.{DeviceKind}
-use Rattle.contact.specs.declared.kind.DeviceKind.TheVariants.{Beat, Down, Disk, Net}
+use Rattle.contact.specs.declared.kind.DeviceKind.TheVariants.{Beat, Down, Disk, Net, Kvp}
 use Rattle.channel_model.specs.Roles.{side_that_asks}
 use Rattle.device_any.specs.Seats.{device_place, kind_at}
 use Rattle.device_any.specs.declared.device_seat.DeviceSeat.{DeviceSeat}
-use Rattle.device_any.specs.declared.device_seat.DeviceSeat.TheVariants.{Beat as BeatSeat, Down as DownSeat, Disk as DiskSeat, Net as NetSeat}
-use Rattle.device_formats.specs.Formats.{besides_on, lends_on}
+use Rattle.device_any.specs.declared.device_seat.DeviceSeat.TheVariants.{Beat as BeatSeat, Down as DownSeat, Disk as DiskSeat, Net as NetSeat, Kvp as KvpSeat}
+use Rattle.device_kinds.specs.Formats.{besides_on, lends_on}
 use Rattle.ring_core.specs.Seen.{Seen}
 use Rattle.ring_core.specs.declared.told.Told.{Told}
 use Rattle.ring_seat.specs.Lawful.{Lawfully}
@@ -54,6 +54,7 @@ none_on Beat window none = refl
 none_on Down window none = refl
 none_on Disk window none = absurd (cc)
 none_on Net window none = absurd (cc)
+none_on Kvp window none = refl
 
 -- there is one for each request that can be open
 pub each_on : (kind : DeviceKind) (window : ℕ) → window ≤ 64 → lends_on kind ≡ true → window ≤ pages_on kind window
@@ -61,6 +62,7 @@ each_on Beat window few lends = absurd (cc)
 each_on Down window few lends = absurd (cc)
 each_on Disk window few lends = omega arith
 each_on Net window few lends = omega (arith, few)
+each_on Kvp window few lends = absurd (cc)
 
 pub on_pages : (kind : DeviceKind) (window count : ℕ) → (1 ≤ window) × (window ≤ 64) → count ≡ pages_on kind window → (lends_on kind ≡ false → count ≡ 0) × (lends_on kind ≡ true → count ≢ 0)
 on_pages kind window count some is = (λ none. is ∙ none_on kind window none, λ lends zero. omega (arith, some.0, is, each_on kind window some.1 lends, zero))
@@ -71,6 +73,18 @@ all_on Beat window count is besides = absurd (cc)
 all_on Down window count is besides = absurd (cc)
 all_on Disk window count is besides = absurd (cc)
 all_on Net window count is besides = omega (arith, is)
+all_on Kvp window count is besides = absurd (cc)
+
+-- a device stands at the side that doesn't ask on its channels
+host_place : (s : DeviceSeat) → side_that_asks (kind_at s) ≡ Guest → side_in (device_place s) ≡ Host
+host_place (BeatSeat s) asks = absurd (cc)
+host_place (DownSeat s) asks = absurd (cc)
+host_place (KvpSeat s) asks = absurd (cc)
+host_place (DiskSeat s) asks = refl
+host_place (NetSeat s) asks = refl
+
+pub host_has : (s : DeviceSeat) (kind : DeviceKind) → kind_at s ≡ kind → side_that_asks kind ≡ Guest → side_in (device_place s) ≡ Host
+host_has s kind is asks = host_place s (ap side_that_asks is ∙ asks)
 
 -- a guest asks where packets lend pages, and a host serves
 pub guest_lends : (kind : DeviceKind) → lends_on kind ≡ true → side_that_asks kind ≡ Guest
@@ -78,12 +92,14 @@ guest_lends Beat lends = absurd (cc)
 guest_lends Down lends = absurd (cc)
 guest_lends Disk lends = refl
 guest_lends Net lends = refl
+guest_lends Kvp lends = absurd (cc)
 
 host_seat : (s : DeviceSeat) → lends_on (kind_at s) ≡ true → side_in (device_place s) ≡ Host
 host_seat (BeatSeat s) lends = absurd (cc)
 host_seat (DownSeat s) lends = absurd (cc)
 host_seat (DiskSeat s) lends = refl
 host_seat (NetSeat s) lends = refl
+host_seat (KvpSeat s) lends = absurd (cc)
 
 pub host_serves : (s : DeviceSeat) (kind : DeviceKind) (side : Side) → kind_at s ≡ kind → side_in (device_place s) ≡ side → lends_on kind ≡ true → side ≡ Host
 host_serves s kind side is at lends = sym at ∙ host_seat s (ap lends_on is ∙ lends)

@@ -1,11 +1,12 @@
 -- What stands in a script can be asked, and what a start-up asks has answers.
-use Rattle.std.proofs.Common.{◌≡◌, true, ◌+◌, ap, map, ◌<◌, ◌≤◌, ℕ, zero, suc, List, [], ◌∷◌, length, filter, get_or, take, ◌++◌, ◌∙◌, Option, Some, None, Result, Ok, Err, refl, sym, subst, arith}
+use Rattle.std.proofs.Common.{◌≡◌, ◌+◌, ap, map, ◌<◌, ◌≤◌, ℕ, zero, suc, List, [], ◌∷◌, length, filter, get_or, take, ◌++◌, ◌∙◌, Option, Some, None, is_some, Result, Ok, Err, refl, sym, subst, arith}
 use Rattle.std.proofs.lemmas.List.{length-append, length-map, take_all, take_more}
 use Rattle.std.specs.Prelude.{IfOk}
 use Rattle.std.specs.List.{AllByRecursion}
 use Rattle.wire_table.proofs.RowLaws.{IsBytes, all_bytes}
+use Rattle.chan_state.specs.declared.stop.Stop.{Stop}
 use Rattle.contact.specs.declared.kind.DeviceKind.{DeviceKind}
-use Rattle.contact.specs.declared.kind.DeviceKind.TheVariants.{Beat, Down, Disk, Net}
+use Rattle.contact.specs.declared.kind.DeviceKind.TheVariants.{Beat, Down, Disk, Net, Kvp}
 use Rattle.scsi_disk.specs.declared.command.Command.{Command}
 use Rattle.scsi_disk.specs.declared.command.Command.TheVariants.{TestUnitReady, Inquiry, ReadCapacity, Read, Write, SynchronizeCache, LongCapacity}
 use Rattle.scsi_disk.specs.declared.request.DiskRequest.{DiskRequest}
@@ -14,16 +15,13 @@ use Rattle.script_lines.specs.Parts.{kind_asked}
 use Rattle.script_lines.specs.Requests.{CanBeCarried, most_moved, bytes_written}
 use Rattle.script_lines.specs.WellFormed.{CanGo}
 use Rattle.script_lines.specs.declared.line.Ask.{Ask}
-use Rattle.device_formats.specs.PageDisks.{IsPageAsk}
-use Rattle.device_formats.specs.Formats.{has_answer_on}
-use Rattle.device_formats.specs.ChannelScript.{ChannelScript, asks_of}
-use Rattle.device_formats.specs.Wants.{no_lists, startup}
-use Rattle.device_formats.specs.declared.buffer_lists.BufferLists.{BufferLists}
-use Rattle.device_formats.specs.declared.want.Want.TheVariants.{Starts, Script}
-use Rattle.device_formats.proofs.ChannelScriptLaws.{same_starts}
-use Rattle.device_formats.proofs.FormatLaws.{start_answers}
-use Rattle.device_formats.proofs.StartLaws.{answered_alike, net_all}
-use Rattle.worker_pair.specs.Plans.{AllCarried, silent}
+use Rattle.disk_format.specs.PageDisks.{IsPageAsk}
+use Rattle.device_kinds.specs.Formats.{has_answer_on, ChannelScript, asks_of, no_lists, startup}
+use Rattle.device_kinds.specs.Kinds.{DeviceWant}
+use Rattle.device_wire.specs.declared.buffer_lists.BufferLists.{BufferLists}
+use Rattle.device_wire.specs.declared.want.Want.TheVariants.{Request as Script}
+use Rattle.device_kinds.proofs.KindLaws.{same_starts, answers_counted}
+use Rattle.worker_pair.specs.Plans.{AllCarried, silent, stop_of}
 
 -- a command moves as many bytes on its channel as the script says
 moved : (k : Option Command) (n : ℕ) → n ≡ bytes_written k → bytes_moved k n ≤ most_moved k
@@ -76,7 +74,7 @@ carried_goes kind (a ∷ asks) (suc i) d all below = carried_goes kind asks i d 
 pub asks_length : (kind : DeviceKind) (sub subs : ℕ) (lists : BufferLists) (asks : List Ask) (protocol : ChannelScript) → protocol ≡ record { kind = kind; sub = sub; subs = subs; lists = lists; asks = asks }
     → length (asks_of protocol) ≡ length (startup kind sub subs no_lists) + length asks
 asks_length kind sub subs lists asks protocol is =
-    omega (arith, ap (λ (t : ChannelScript). length (asks_of t)) is, length-append (startup kind sub subs lists) (map Script asks), length-map asks Script, same_starts kind sub subs lists no_lists)
+    omega (arith, ap (λ (t : ChannelScript). length (asks_of t)) is, length-append (startup kind sub subs lists) (map Script asks), length-map {B = DeviceWant} asks Script, same_starts kind sub subs lists no_lists)
 
 -- one more of a list that can be asked
 all_push : {A : Type 0} (P : A → Type 0) (xs : List A) (x : A) → AllByRecursion P xs → P x → AllByRecursion P (xs ++ x ∷ [])
@@ -89,22 +87,23 @@ all_more {A} P xs i x below is all here =
     subst (AllByRecursion P) (sym grown) (all_push P (take i xs) x all here)
 
 -- all requests of a start-up have answers, but for the version that a network is told
-
-disk_answers : (k : ℕ) → has_answer_on Disk (Starts k) ≡ true
-disk_answers k = start_answers Disk k
-
 pub starts_all : (kind : DeviceKind) (sub subs : ℕ) → length (filter (has_answer_on kind) (startup kind sub subs no_lists)) + silent kind sub ≡ length (startup kind sub subs no_lists)
-starts_all Beat zero subs = omega (arith, answered_alike Beat (startup Beat zero subs no_lists) (start_answers Beat 0, tt))
-starts_all Down zero subs = omega (arith, answered_alike Down (startup Down zero subs no_lists) (start_answers Down 0, tt))
-starts_all Disk zero zero = omega (arith, answered_alike Disk (startup Disk zero zero no_lists) (disk_answers 0, (disk_answers 1, (disk_answers 2, (disk_answers 3, tt)))))
-starts_all Disk zero (suc n) = omega (arith, answered_alike Disk (startup Disk zero (suc n) no_lists) (disk_answers 0, (disk_answers 1, (disk_answers 2, (disk_answers 3, (disk_answers (3 + suc n), tt))))))
-starts_all Net zero subs =
-    let all : length (filter (has_answer_on Net) (startup Net zero subs no_lists)) ≡ 4 = net_all no_lists in
-    ap (λ n. n + 1) all
+starts_all Beat zero subs = ap (λ n. n + 0) (answers_counted Beat subs no_lists)
+starts_all Down zero subs = ap (λ n. n + 0) (answers_counted Down subs no_lists)
+starts_all Disk zero zero = ap (λ n. n + 0) (answers_counted Disk 0 no_lists)
+starts_all Disk zero (suc n) = ap (λ n. n + 0) (answers_counted Disk (suc n) no_lists)
+starts_all Net zero subs = ap (λ n. n + 1) (answers_counted Net subs no_lists)
+starts_all Kvp zero subs = ap (λ n. n + 0) (answers_counted Kvp subs no_lists)
 starts_all Beat (suc s) subs = refl
 starts_all Down (suc s) subs = refl
 starts_all Disk (suc s) subs = refl
 starts_all Net (suc s) subs = refl
+starts_all Kvp (suc s) subs = refl
+
+-- a stop is told where there is one
+pub stops_told : (stop : Option Stop) → is_some stop ≡ is_some (stop_of stop)
+stops_told None = refl
+stops_told (Some s) = refl
 
 -- what follows where a call gives a value
 pub if_ok : {A E : Type 0} (P Q : A → Type 0) (r : Result A E) → ((a : A) → P a → Q a) → IfOk r P → IfOk r Q

@@ -2,7 +2,8 @@
 use Rattle.std.proofs.Common.{◌≡◌, ℕ, length, Option, Some, None, is_some, Bool, false, refl, ap, subst, sym, ◌∙◌, arith}
 use Rattle.script_lines.specs.declared.line.Ask.{Ask}
 use Rattle.bus_script.specs.declared.outcome.Reply.{Reply}
-use Rattle.device_formats.specs.ChannelScript.{ChannelScript}
+use Rattle.device_kinds.specs.Formats.{ChannelScript}
+use Rattle.io_edge.specs.declared.side.Side.{Side}
 use Rattle.io_edge.specs.declared.side.Side.TheVariants.{Guest, Host}
 use Rattle.ring_core.specs.Seen.{Seen}
 use Rattle.ring_seat.specs.Settling.{AreOfOneChannel}
@@ -12,9 +13,12 @@ use Rattle.worker_server.specs.Serving.{Serving}
 use Rattle.channel_model.specs.Channel.{count_of}
 use Rattle.worker_pair.specs.Pairs.{AreRoles, ArePair, IsNewEnd, PlansAgree}
 use Rattle.worker_pair.specs.Plans.{AsksFor, Planned, ServesFor}
-use Rattle.worker_pair.specs.Workers.{IsLive, end_at}
+use Rattle.worker_pair.specs.Leaving.{Leaves, WorkerDone}
+use Rattle.worker_pair.specs.Seats.{IsAt, side_in}
+use Rattle.worker_pair.specs.Workers.{IsLive, IsOfSide, end_at}
 use Rattle.device_any.specs.declared.device_seat.DeviceSeat.{DeviceSeat}
 use Rattle.worker_pair.specs.declared.worker.Worker.{Worker}
+use Rattle.worker_pair.specs.declared.worker.Worker.TheVariants.{Asks, Serves}
 use Rattle.worker_pair.proofs.Opening.{asks_length}
 
 unstopped : (stop : Option (ℕ × Bool)) → is_some stop ≡ false → stop ≡ None
@@ -49,3 +53,8 @@ pair_of n g h guest host one g_new h_new at_g at_h guest_live host_live roles = 
 -- and so are the same workers
 pub same_pair : (g h guest host : Worker) → guest ≡ g → host ≡ h → ArePair g h → ArePair guest host
 same_pair g h guest host is_g is_h pair = subst (λ w. ArePair w host) (sym is_g) (subst (ArePair g) (sym is_h) pair)
+
+-- what a worker leaves is at its side: no seat, or the one that it had
+pub left_at_side : (side : Side) (w : Worker) (d : WorkerDone) → IsOfSide side w → Leaves w d → IsAt side d.seat
+left_at_side side (Asks w) d is left = subst (IsAt side) (sym left.seat) tt
+left_at_side side (Serves w) d is left = subst (IsAt side) (sym left.seat) (ap side_in left.place ∙ is.seat)

@@ -7,10 +7,10 @@ use Rattle.page_kept.specs.declared.item.Item.{Item}
 use Rattle.channel_trace.specs.declared.event.Event.{Event}
 use Rattle.ring_core.specs.Seen.{Seen}
 use Rattle.ring_core.specs.declared.told.Told.{Told}
+use Rattle.ring_core.specs.Told.{tells_nothing}
 use Rattle.ring_seat.specs.Seats.{told_in}
-use Rattle.device_formats.specs.Formats.{besides_on, format_of}
-use Rattle.device_formats.specs.Items.{said_item}
-use Rattle.device_formats.specs.ChannelScript.{ChannelScript, asks_of}
+use Rattle.device_kinds.specs.Formats.{besides_on, format_of, ChannelScript, asks_of}
+use Rattle.device_packets.specs.Said.{said_item}
 use Rattle.worker_port.specs.Line.{IsLine, IsSameEnd, line_of, past_as}
 use Rattle.worker_requester.specs.Asking.{Asking, AskedFrom, AsksBy, EndsAcked, IsPaced, EverTried as AskerTried}
 use Rattle.worker_port.specs.Rooms.{AskedWithin, ServedWithin, AskLacksFor, ServeLacksFor, is_broken}
@@ -48,7 +48,7 @@ pub record LeavesAsked (w : Asking ChannelScript TableSeat Reply) (d : WorkerDon
   pub paced : IsPaced (format_of w.protocol.kind) w.starts (asks_of w.protocol) (items_in d.end)
   pub ids : AskedFrom (format_of w.protocol.kind) (length w.table) (asks_of w.protocol) (items_in d.end)
   pub acks : EndsAcked (format_of w.protocol.kind) d.ended (line_of said_item d.end)
-  pub tried : AskerTried (λ (s : TableSeat). s.seat.table_id) told_at (λ (s : TableSeat). None) (format_of w.protocol.kind) d.ended w.end.end (line_of said_item d.end)
+  pub tried : AskerTried (λ (s : TableSeat). s.seat.table_id) told_at (λ (s : TableSeat). tells_nothing) (format_of w.protocol.kind) d.ended w.end.end (line_of said_item d.end)
   pub seat : d.seat ≡ None
   pub serials : d.serials.items ≡ []
 
@@ -57,7 +57,7 @@ pub record LeavesServed (w : Serving ChannelScript DeviceSeat TableSeat Ask Repl
   pub back : DeviceSeat
   pub seat : d.seat ≡ Some back
   pub serves : EndsBy (format_of w.responder.protocol.kind) (besides_on w.responder.protocol.kind) d.ended w (line_of said_item d.end) (calls_behind w.responder.before (served_at back))
-  pub tried : ServerTried (λ (s : TableSeat). s.seat.table_id) told_at (λ (s : TableSeat). None) (format_of w.responder.protocol.kind) (besides_on w.responder.protocol.kind) d.ended w (line_of said_item d.end) (calls_behind w.responder.before (served_at back))
+  pub tried : ServerTried (λ (s : TableSeat). s.seat.table_id) told_at (λ (s : TableSeat). tells_nothing) (format_of w.responder.protocol.kind) (besides_on w.responder.protocol.kind) d.ended w (line_of said_item d.end) (calls_behind w.responder.before (served_at back))
   pub before : take (length w.responder.before) (served_at back) ≡ w.responder.before
   pub serials : d.serials.items ≡ map (λ c. c.serial) (calls_behind w.responder.before (served_at back))
   pub end : IsSameEnd (λ (s : TableSeat). s.seat.table_id) w.end.end d.end
@@ -87,7 +87,7 @@ StandsAsking (Some how) w =
     × AskLacksFor (format_of w.protocol.kind) (besides_on w.protocol.kind) (length (asks_of w.protocol)) how w.end.state.past
     × IsPaced (format_of w.protocol.kind) w.starts (asks_of w.protocol) w.end.state.past × AskedFrom (format_of w.protocol.kind) (length w.table) (asks_of w.protocol) w.end.state.past
     × EndsAcked (format_of w.protocol.kind) how w.end × (is_broken how ≡ false)
-    × AskerTried (λ (s : TableSeat). s.seat.table_id) told_at (λ (s : TableSeat). None) (format_of w.protocol.kind) how w.end.end w.end
+    × AskerTried (λ (s : TableSeat). s.seat.table_id) told_at (λ (s : TableSeat). tells_nothing) (format_of w.protocol.kind) how w.end.end w.end
 
 -- and one that serves
 abbrev pub StandsServing : Option Ended → Serving ChannelScript DeviceSeat TableSeat Ask Reply → Type 0
@@ -95,4 +95,4 @@ StandsServing None w = w.end.state.machine.marked ≡ false
 StandsServing (Some how) w =
     EndsBy (format_of w.responder.protocol.kind) (besides_on w.responder.protocol.kind) how w w.end w.responder.calls × ServedWithin (format_of w.responder.protocol.kind) (besides_on w.responder.protocol.kind) w.end.state.past
     × ServeLacksFor (format_of w.responder.protocol.kind) (besides_on w.responder.protocol.kind) (w.starts + w.come) w.serve w.stops how w.end.state.past × (is_broken how ≡ false)
-    × ServerTried (λ (s : TableSeat). s.seat.table_id) told_at (λ (s : TableSeat). None) (format_of w.responder.protocol.kind) (besides_on w.responder.protocol.kind) how w w.end w.responder.calls
+    × ServerTried (λ (s : TableSeat). s.seat.table_id) told_at (λ (s : TableSeat). tells_nothing) (format_of w.responder.protocol.kind) (besides_on w.responder.protocol.kind) how w w.end w.responder.calls

@@ -5,11 +5,11 @@ use Rattle.io_edge.specs.declared.side.Side.TheVariants.{Guest, Host}
 use Rattle.ring_core.specs.Seen.{Seen}
 use Rattle.worker_port.specs.Line.{paged_end}
 use Rattle.contact.specs.declared.kind.DeviceKind.{DeviceKind}
-use Rattle.contact.specs.declared.kind.DeviceKind.TheVariants.{Beat, Down, Disk, Net}
+use Rattle.contact.specs.declared.kind.DeviceKind.TheVariants.{Beat, Down, Disk, Net, Kvp}
 use Rattle.ring_seat.specs.declared.table_seat.TableSeat.{TableSeat}
 use Rattle.script_lines.specs.declared.line.Ask.{Ask}
 use Rattle.bus_script.specs.declared.outcome.Reply.{Reply}
-use Rattle.device_formats.specs.ChannelScript.{ChannelScript, asks_of}
+use Rattle.device_kinds.specs.Formats.{ChannelScript, asks_of}
 use Rattle.ring_seat.specs.Settling.{AreOfOneChannel}
 use Rattle.worker_requester.specs.Asking.{Asking}
 use Rattle.worker_server.specs.Serving.{Serving}
@@ -51,6 +51,7 @@ pages_on Beat window = 0
 pages_on Down window = 0
 pages_on Disk window = window
 pages_on Net window = 128
+pages_on Kvp window = 0
 
 -- a new end of this side, of rings of 1 to 16 pages and of so many data pages
 abbrev pub IsNewEnd : Side → ℕ → Seen TableSeat → Type 0

@@ -5,17 +5,18 @@ use Rattle.std.specs.List.{AllByRecursion}
 use Rattle.script_lines.specs.Parts.{kind_asked}
 use Rattle.script_lines.specs.WellFormed.{CanGo}
 use Rattle.script_lines.specs.declared.line.Ask.{Ask}
-use Rattle.script_lines.specs.declared.line.Ask.TheVariants.{Ic as AskIc, Disk as AskDisk, Net as AskNet}
+use Rattle.script_lines.specs.declared.line.Ask.TheVariants.{Ic as AskIc, Disk as AskDisk, Net as AskNet, Kvp as AskKvp}
+use Rattle.util_ic.specs.declared.ic.IcAsk.{IcAsk}
+use Rattle.kvp_ic.specs.declared.message.Kvp.{Kvp as Message}
 use Rattle.rndis_msg.specs.declared.rndis.Rndis.{Rndis}
 use Rattle.scsi_disk.specs.declared.request.DiskRequest.{DiskRequest}
 use Rattle.bus_script.specs.declared.outcome.Reply.{Reply}
-use Rattle.device_formats.specs.Formats.{has_answer_on}
-use Rattle.device_formats.specs.ChannelScript.{ChannelScript}
-use Rattle.device_formats.specs.Wants.{no_lists, startup, IsAskable}
-use Rattle.device_formats.specs.declared.buffer_lists.BufferLists.{BufferLists}
+use Rattle.device_kinds.specs.Formats.{has_answer_on, ChannelScript, no_lists, startup}
+use Rattle.device_kinds.specs.Kinds.{IsAskable}
+use Rattle.device_wire.specs.declared.buffer_lists.BufferLists.{BufferLists}
 use Rattle.chan_state.specs.declared.stop.Stop.{Stop}
 use Rattle.contact.specs.declared.kind.DeviceKind.{DeviceKind}
-use Rattle.contact.specs.declared.kind.DeviceKind.TheVariants.{Beat as BeatKind, Down as DownKind, Disk as DiskKind, Net as NetKind}
+use Rattle.contact.specs.declared.kind.DeviceKind.TheVariants.{Beat as BeatKind, Down as DownKind, Disk as DiskKind, Net as NetKind, Kvp as KvpKind}
 use Rattle.io_edge.specs.declared.side.Side.{Side}
 use Rattle.io_edge.specs.declared.side.Side.TheVariants.{Guest}
 use Rattle.channel_model.specs.Channel.{count_of, held_of}
@@ -59,12 +60,21 @@ guest_asks BeatKind disk net = []
 guest_asks DownKind disk net = []
 guest_asks DiskKind disk net = map AskDisk disk
 guest_asks NetKind disk net = map AskNet net
+guest_asks KvpKind disk net = []
+
+-- what a host asks one: the requests to a heartbeat or a shutdown service, or those to a key-value service. It asks no device of its own
+abbrev pub host_asks : DeviceKind → List IcAsk → List Message → List Ask
+host_asks BeatKind asks kvp = map AskIc asks
+host_asks DownKind asks kvp = map AskIc asks
+host_asks DiskKind asks kvp = []
+host_asks NetKind asks kvp = []
+host_asks KvpKind asks kvp = map AskKvp kvp
 
 abbrev pub guest_planned : GuestPlan → Planned
 guest_planned p = record { relid = p.relid; kind = p.kind; sub = p.sub; subs = p.subs; window = p.window; count = p.count; lists = record { receive = p.receive_list; send = p.send_list }; stop = None; asks = guest_asks p.kind p.disk.items p.net.items }
 
 abbrev pub host_planned : HostPlan → Planned
-host_planned p = record { relid = p.relid; kind = p.kind; sub = p.sub; subs = p.subs; window = p.window; count = p.count; lists = no_lists; stop = stop_of p.stop; asks = map AskIc p.asks.items }
+host_planned p = record { relid = p.relid; kind = p.kind; sub = p.sub; subs = p.subs; window = p.window; count = p.count; lists = no_lists; stop = stop_of p.stop; asks = host_asks p.kind p.asks.items p.kvp.items }
 
 abbrev pub planned : ChannelPlan → List Ask → Planned
 planned p asks = record { relid = p.relid; kind = p.kind; sub = p.sub; subs = p.subs; window = p.window; count = p.count; lists = p.lists; stop = stop_of p.stop; asks = asks }
@@ -88,6 +98,7 @@ abbrev pub silent : DeviceKind → ℕ → ℕ
 silent BeatKind sub = 0
 silent DownKind sub = 0
 silent DiskKind sub = 0
+silent KvpKind sub = 0
 silent NetKind zero = 1
 silent NetKind (suc s) = 0
 

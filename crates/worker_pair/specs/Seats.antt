@@ -1,10 +1,10 @@
 -- The side of a device's seat, and the seats at a guest's and a host's end.
 use Rattle.std.specs.Prelude.{◌≡◌, Option, Some, None}
-use Rattle.device_any.specs.Seats.{DevicePlace, BeatPlace, DownPlace, DiskPlace, NetPlace, device_place}
+use Rattle.device_any.specs.Seats.{DevicePlace, BeatPlace, DownPlace, DiskPlace, NetPlace, KvpPlace, device_place}
 use Rattle.device_any.specs.declared.device_seat.DeviceSeat.{DeviceSeat}
-use Rattle.device_any.specs.declared.device_seat.DeviceSeat.TheVariants.{Beat, Down, Disk, Net}
+use Rattle.device_any.specs.declared.device_seat.DeviceSeat.TheVariants.{Beat, Down, Disk, Net, Kvp}
 use Rattle.worker_pair.specs.declared.guest_seat.GuestSeat.{GuestSeat}
-use Rattle.worker_pair.specs.declared.guest_seat.GuestSeat.TheVariants.{None as NoGuest, Beat as GuestBeat, Down as GuestDown}
+use Rattle.worker_pair.specs.declared.guest_seat.GuestSeat.TheVariants.{None as NoGuest, Beat as GuestBeat, Down as GuestDown, Kvp as GuestKvp}
 use Rattle.worker_pair.specs.declared.host_seat.HostSeat.{HostSeat}
 use Rattle.worker_pair.specs.declared.host_seat.HostSeat.TheVariants.{None as NoHost, Disk as HostDisk, Net as HostNet}
 use Rattle.io_edge.specs.declared.side.Side.{Side}
@@ -16,6 +16,7 @@ side_in (BeatPlace p) = Guest
 side_in (DownPlace p) = Guest
 side_in (DiskPlace p) = Host
 side_in (NetPlace p) = Host
+side_in (KvpPlace p) = Guest
 
 -- no seat, or one of a device of this side
 abbrev pub IsAt : Side → Option DeviceSeat → Type 0
@@ -27,6 +28,7 @@ abbrev pub at_guest : GuestSeat → Option DeviceSeat
 at_guest NoGuest = None
 at_guest (GuestBeat s) = Some (Beat s)
 at_guest (GuestDown s) = Some (Down s)
+at_guest (GuestKvp s) = Some (Kvp s)
 
 -- and a host's
 abbrev pub at_host : HostSeat → Option DeviceSeat

@@ -1,9 +1,9 @@
 -- The workers of a channel, as contracts see them.
 use Rattle.std.specs.Prelude.{ℕ, ◌≡◌, false, length, Option, Some, None}
 use Rattle.io_edge.specs.declared.side.Side.{Side}
-use Rattle.device_formats.specs.Formats.{besides_on, format_of}
-use Rattle.device_formats.specs.ChannelScript.{asks_of}
+use Rattle.device_kinds.specs.Formats.{besides_on, format_of, asks_of}
 use Rattle.ring_core.specs.Seen.{Seen}
+use Rattle.ring_core.specs.Told.{tells_nothing}
 use Rattle.ring_seat.specs.declared.table_seat.TableSeat.{TableSeat}
 use Rattle.ring_seat.specs.Seats.{told_in}
 use Rattle.worker_requester.specs.Asking.{AskTurns, AskEnds, AsksOn, TurnTried as AskTried}
@@ -59,20 +59,20 @@ Turned turn (Serves w) = Turns left_at (format_of w.responder.protocol.kind) (be
 
 -- why it went so: what the worker did in it
 abbrev pub Caused : Turn → Worker → Worker → Type 0
-Caused turn (Asks v) (Asks w) = AskCause (λ (s : TableSeat). Some (told_in s.seat.me.0)) (λ (s : TableSeat). None) turn v.end w.end
+Caused turn (Asks v) (Asks w) = AskCause (λ (s : TableSeat). Some (told_in s.seat.me.0)) (λ (s : TableSeat). tells_nothing) turn v.end w.end
 Caused turn (Asks v) (Serves w) = ⊥
 Caused turn (Serves v) (Asks w) = ⊥
-Caused turn (Serves v) (Serves w) = ServeCause (λ (s : TableSeat). Some (told_in s.seat.me.0)) (λ (s : TableSeat). None) turn v.end w.end
+Caused turn (Serves v) (Serves w) = ServeCause (λ (s : TableSeat). Some (told_in s.seat.me.0)) (λ (s : TableSeat). tells_nothing) turn v.end w.end
 
 -- what a turn of an end that was awake tried: where it rests, the packet that waits for room, in this turn; and where it ended after the other end's mark, the first
 -- packet that it let go
 abbrev pub Tried : Turn → Worker → Worker → Type 0
 Tried turn (Asks v) (Asks w) =
-    v.end.state.machine.asleep ≡ false → AskTried (λ (s : TableSeat). Some (told_in s.seat.me.0)) (λ (s : TableSeat). None) (format_of w.protocol.kind) (asks_of w.protocol) turn v.end.end w
+    v.end.state.machine.asleep ≡ false → AskTried (λ (s : TableSeat). Some (told_in s.seat.me.0)) (λ (s : TableSeat). tells_nothing) (format_of w.protocol.kind) (asks_of w.protocol) turn v.end.end w
 Tried turn (Asks v) (Serves w) = ⊥
 Tried turn (Serves v) (Asks w) = ⊥
 Tried turn (Serves v) (Serves w) =
-    v.end.state.machine.asleep ≡ false → ServeTried (λ (s : TableSeat). Some (told_in s.seat.me.0)) (λ (s : TableSeat). None) (format_of w.responder.protocol.kind) (besides_on w.responder.protocol.kind) turn v.end.end w
+    v.end.state.machine.asleep ≡ false → ServeTried (λ (s : TableSeat). Some (told_in s.seat.me.0)) (λ (s : TableSeat). tells_nothing) (format_of w.responder.protocol.kind) (besides_on w.responder.protocol.kind) turn v.end.end w
 
 -- the same worker later
 abbrev pub GoesOn : Worker → Worker → Type 0

@@ -1,7 +1,7 @@
 //! What the workers of a channel are made for.
 use chan_state::Stop;
 use contact::DeviceKind;
-use device_formats::BufferLists;
+use device_wire::BufferLists;
 
 /// What the workers of a channel do in a phase, besides the requests that one of them asks.
 #[derive(Clone, Copy)]

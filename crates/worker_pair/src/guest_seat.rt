@@ -5,6 +5,7 @@ ghost use Rattle.io_edge.specs.declared.side.Side.TheVariants.{Guest as GuestSid
 
 use device_any::DeviceSeat;
 use hist_lock::HistSeat;
+use kvp_ic::KvpMachine;
 use util_ic::{BeatMachine, DownMachine};
 
 /// The seat that the guest's worker of a channel has at its device.
@@ -16,6 +17,8 @@ pub enum GuestSeat {
     Beat(HistSeat<BeatMachine>),
     /// It serves shutdowns.
     Down(HistSeat<DownMachine>),
+    /// It serves key-value exchange.
+    Kvp(HistSeat<KvpMachine>),
 }
 
 impl GuestSeat {
@@ -28,6 +31,7 @@ impl GuestSeat {
             GuestSeat::None => None,
             GuestSeat::Beat(seat) => Some(DeviceSeat::Beat(seat)),
             GuestSeat::Down(seat) => Some(DeviceSeat::Down(seat)),
+            GuestSeat::Kvp(seat) => Some(DeviceSeat::Kvp(seat)),
         }
     }
 
@@ -40,6 +44,7 @@ impl GuestSeat {
             None => GuestSeat::None,
             Some(DeviceSeat::Beat(seat)) => GuestSeat::Beat(seat),
             Some(DeviceSeat::Down(seat)) => GuestSeat::Down(seat),
+            Some(DeviceSeat::Kvp(seat)) => GuestSeat::Kvp(seat),
             Some(DeviceSeat::Disk(_)) => unreachable!(),
             Some(DeviceSeat::Net(_)) => unreachable!(),
         }

@@ -11,7 +11,7 @@ ghost use Rattle.worker_pair.specs.Workers.{Caused, GoesOn, IsLive, IsOfSide, Tr
 
 use crate::making::{guest_asks, make_worker};
 use crate::{ChannelPlan, GuestDone, GuestPlan, GuestSeat, Worker, WorkerDone};
-use device_formats::BufferLists;
+use device_wire::BufferLists;
 use io_edge::{Gate, Side};
 use ring_seat::GuestEnd;
 use std::alloc::{AllocError, Global};

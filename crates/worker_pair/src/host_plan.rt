@@ -1,6 +1,7 @@
 //! What a host's worker is made for.
 use chan_state::Stop;
 use contact::DeviceKind;
+use kvp_ic::Kvp;
 use util_ic::IcAsk;
 
 /// What the host's worker of a channel does in a phase.
@@ -20,6 +21,8 @@ pub struct HostPlan {
     pub count: u32,
     /// Where the host stops to serve, if it does before the end of the phase.
     pub stop: Option<Stop>,
-    /// The requests, where the host asks a service.
+    /// The requests, where the host asks a heartbeat or a shutdown service.
     pub asks: Vec<IcAsk>,
+    /// The requests, where it asks a key-value service.
+    pub kvp: Vec<Kvp>,
 }

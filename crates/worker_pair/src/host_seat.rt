@@ -43,6 +43,7 @@ impl HostSeat {
             Some(DeviceSeat::Net(seat)) => HostSeat::Net(seat),
             Some(DeviceSeat::Beat(_)) => unreachable!(),
             Some(DeviceSeat::Down(_)) => unreachable!(),
+            Some(DeviceSeat::Kvp(_)) => unreachable!(),
         }
     }
 }

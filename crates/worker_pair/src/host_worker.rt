@@ -9,9 +9,9 @@ ghost use Rattle.worker_pair.specs.Plans.{CanPlan, HasSeat, IsMade, host_planned
 ghost use Rattle.worker_pair.specs.Seats.{IsAt, at_host};
 ghost use Rattle.worker_pair.specs.Workers.{Caused, GoesOn, IsLive, IsOfSide, Tried, Turned, end_at};
 
-use crate::making::{ic_asks, make_worker};
+use crate::making::{host_asks, make_worker};
 use crate::{ChannelPlan, HostDone, HostPlan, HostSeat, Worker, WorkerDone};
-use device_formats::BufferLists;
+use device_wire::BufferLists;
 use io_edge::{Gate, Side};
 use ring_seat::HostEnd;
 use std::alloc::{AllocError, Global};
@@ -19,7 +19,7 @@ use std::marker::Model;
 use std::sync::Wait;
 use worker_port::Turn;
 
-/// The worker of the host's end of a channel. It serves a disk or a network's adapter, and asks for heartbeats and shutdowns.
+/// The worker of the host's end of a channel. It serves a disk or a network's adapter, and asks for heartbeats, shutdowns and key-value exchange.
 #[derive(Drop)]
 pub struct HostWorker {
     worker: Worker,
@@ -53,7 +53,7 @@ impl HostWorker {
         ensures end { IfOk result (λ w. ((end_at w).state ≡ end.state) × ((end_at w).seat ≡ end.seat)) }
         ensures live { IfOk result IsLive }
     {
-        let asks = ic_asks(alloc, plan.asks)?;
+        let asks = host_asks(alloc, plan.kind, plan.asks, plan.kvp)?;
         let channel = ChannelPlan {
             relid: plan.relid,
             kind: plan.kind,

@@ -7,14 +7,14 @@ ghost use Rattle.script_lines.specs.Requests.{CanBeCarried, IsSent};
 ghost use Rattle.contact.specs.declared.kind.DeviceKind.TheVariants.{Net as NetKind};
 ghost use Rattle.script_lines.specs.WellFormed.{CanGo};
 ghost use Rattle.script_lines.specs.declared.line.Ask.{Ask as Asked};
-ghost use Rattle.script_lines.specs.declared.line.Ask.TheVariants.{Ic as AskedIc, Disk as AskedDisk, Net as AskedNet};
-ghost use Rattle.device_formats.specs.PageDisks.{IsPageAsk};
-ghost use Rattle.device_formats.specs.Formats.{besides_on, has_answer_on, lends_on};
-ghost use Rattle.device_formats.specs.Wants.{no_lists, startup, IsAskable};
+ghost use Rattle.script_lines.specs.declared.line.Ask.TheVariants.{Ic as AskedIc, Disk as AskedDisk, Net as AskedNet, Kvp as AskedKvp};
+ghost use Rattle.disk_format.specs.PageDisks.{IsPageAsk};
+ghost use Rattle.device_kinds.specs.Formats.{besides_on, has_answer_on, lends_on, no_lists, startup};
+ghost use Rattle.device_kinds.specs.Kinds.{IsAskable};
 ghost use Rattle.worker_port.specs.Line.{paged_end};
 ghost use Rattle.channel_model.specs.Roles.{side_that_asks};
 ghost use Rattle.worker_pair.specs.Pairs.{pages_on};
-ghost use Rattle.worker_pair.specs.Plans.{AllCarried, CanPlan, HasSeat, IsMade, guest_asks, planned, silent, stop_of};
+ghost use Rattle.worker_pair.specs.Plans.{AllCarried, CanPlan, HasSeat, IsMade, guest_asks, host_asks, planned, silent, stop_of};
 ghost use Rattle.channel_model.specs.Channel.{count_of, held_of};
 ghost use Rattle.device_any.specs.Seats.{served_at, kind_at, left_at};
 ghost use Rattle.worker_pair.specs.Seats.{IsAt};
@@ -26,10 +26,10 @@ use bus_script::Ask;
 use chan_state::Stop;
 use channel_protocol::Protocol;
 use contact::DeviceKind;
-use device_any::DeviceSeat;
-use device_formats::BufferLists;
-use device_protocols::DeviceProtocol;
+use device_any::{DeviceProtocol, DeviceSeat, DeviceWire};
+use device_wire::BufferLists;
 use io_edge::Side;
+use kvp_ic::Kvp;
 use ring_core::End;
 use ring_seat::TableSeat;
 use rndis_msg::Rndis;
@@ -44,6 +44,7 @@ fn service_can(kind: DeviceKind, ask: IcAsk)
     requires { kind_asked (Asked.Ic ask) ≡ kind }
     ensures { IsAskable kind (Asked.Ic ask) }
 {
+    // For the proof: what a value keeps is known where the value is read.
     let _beat = matches!(ask, IcAsk::Beat { .. });
 }
 
@@ -52,6 +53,7 @@ fn disk_can(cdb: &[u8], out: &[u8])
     requires { CanBeCarried (record { cdb = cdb.now; out = out.now }) }
     ensures { IsPageAsk (record { cdb = cdb.now; out = out.now }) }
 {
+    // For the proof: the numbers of a slice that is read are known to fit their type.
     let _len = cdb.len() + out.len();
 }
 
@@ -60,6 +62,7 @@ fn message_can(message: &Rndis)
     requires { IsSent message.now }
     ensures { IsAskable NetKind (Asked.Net message.now) }
 {
+    // For the proof: what a value keeps is known where the value is read.
     let _message = message;
 }
 
@@ -73,6 +76,7 @@ fn ask_can(kind: DeviceKind, ask: &Ask)
         Ask::Ic(ask) => service_can(kind, *ask),
         Ask::Disk(request) => disk_can(&request.cdb, request.out.bytes()),
         Ask::Net(message) => message_can(message),
+        Ask::Kvp(_) => {}
     }
 }
 
@@ -122,11 +126,12 @@ pub(crate) fn guest_asks(
         DeviceKind::Down => Ok(Vec::new(alloc)),
         DeviceKind::Disk => disk_asks(alloc, disk),
         DeviceKind::Net => net_asks(alloc, net),
+        DeviceKind::Kvp => Ok(Vec::new(alloc)),
     }
 }
 
-/// What a service is asked.
-pub(crate) fn ic_asks(alloc: Global, asks: Vec<IcAsk>) -> Result<Vec<Ask>, AllocError>
+// What a heartbeat or a shutdown service is asked.
+fn ic_asks(alloc: Global, asks: Vec<IcAsk>) -> Result<Vec<Ask>, AllocError>
     ensures { IfOk result (λ all. all.items ≡ map AskedIc asks.items) }
 {
     let mut all = Vec::with_capacity(alloc, asks.len())?;
@@ -134,6 +139,35 @@ pub(crate) fn ic_asks(alloc: Global, asks: Vec<IcAsk>) -> Result<Vec<Ask>, Alloc
         all.push_reserved(Ask::Ic(ask));
     }
     Ok(all)
+}
+
+// What a key-value service is asked.
+fn kvp_asks(alloc: Global, kvp: Vec<Kvp>) -> Result<Vec<Ask>, AllocError>
+    ensures { IfOk result (λ asks. asks.items ≡ map AskedKvp kvp.items) }
+{
+    let mut asks = Vec::with_capacity(alloc, kvp.len())?;
+    for request in kvp {
+        asks.push_reserved(Ask::Kvp(request));
+    }
+    Ok(asks)
+}
+
+/// What a host asks a device of this kind.
+pub(crate) fn host_asks(
+    alloc: Global,
+    kind: DeviceKind,
+    asks: Vec<IcAsk>,
+    kvp: Vec<Kvp>,
+) -> Result<Vec<Ask>, AllocError>
+    ensures { IfOk result (λ all. all.items ≡ host_asks kind asks.items kvp.items) }
+{
+    match kind {
+        DeviceKind::Beat => ic_asks(alloc, asks),
+        DeviceKind::Down => ic_asks(alloc, asks),
+        DeviceKind::Disk => Ok(Vec::new(alloc)),
+        DeviceKind::Net => Ok(Vec::new(alloc)),
+        DeviceKind::Kvp => kvp_asks(alloc, kvp),
+    }
 }
 
 /// A worker that asks. On a network's channel it tells these page lists.
@@ -165,8 +199,9 @@ pub(crate) fn make_asker(
     ensures end { IfOk result (λ w. (w.end.end.state ≡ end.state) × (w.end.end.seat ≡ end.seat)) }
     ensures live { IfOk result (λ w. w.end.state.machine.marked ≡ false) }
 {
+    // For the proof: that each request can be asked is known of it where it is read, so this goes over all of them; the loop does nothing.
     all_can(kind, &asks);
-    let protocol = DeviceProtocol::make(kind, sub, subs, lists, asks);
+    let protocol = DeviceProtocol::make(DeviceWire::of(kind), sub, subs, lists, asks);
     Requester::make(alloc, protocol, end, side, relid, window)
 }
 
@@ -197,7 +232,7 @@ fn count_silent(kind: DeviceKind, sub: u32) -> u32
     ensures most { result ≤ 1 }
 {
     match kind {
-        DeviceKind::Beat | DeviceKind::Down | DeviceKind::Disk => 0,
+        DeviceKind::Beat | DeviceKind::Down | DeviceKind::Disk | DeviceKind::Kvp => 0,
         DeviceKind::Net => if sub == 0 { 1 } else { 0 },
     }
 }
@@ -233,7 +268,13 @@ pub(crate) fn make_server(
     ensures end { IfOk result (λ w. (w.end.end.state ≡ end.state) × (w.end.end.seat ≡ end.seat)) }
     ensures live { IfOk result (λ w. w.end.state.machine.marked ≡ false) }
 {
-    let protocol = DeviceProtocol::make(kind, sub, subs, BufferLists::NONE, Vec::new(alloc));
+    let protocol = DeviceProtocol::make(
+        DeviceWire::of(kind),
+        sub,
+        subs,
+        BufferLists::NONE,
+        Vec::new(alloc),
+    );
     let silent = count_silent(kind, sub);
     let all = protocol.starts();
     let starts = all - silent;

@@ -17,12 +17,7 @@ use std::sync::Wait;
 use worker_port::{Ended, Turn};
 
 // A turn of the end that asks, unless it has ended.
-fn ask<R: Wait, G: Gate>(
-    rt: &R,
-    gate: &G,
-    asker: &mut ChannelRequester,
-    ended: Option<Ended>,
-) -> Option<Ended>
+fn ask<G: Gate>(gate: &G, asker: &mut ChannelRequester, ended: Option<Ended>) -> Option<Ended>
     requires { StandsAsking ended asker.old }
     ensures stands { StandsAsking result asker.new }
     ensures on { AsksOn (λ (s : TableSeat). s.seat.table_id) (λ (s : TableSeat). Some (told_in s.seat.me.0)) asker.old asker.new }
@@ -30,7 +25,7 @@ fn ask<R: Wait, G: Gate>(
     if ended.is_some() {
         return ended;
     }
-    match asker.turn(rt, gate) {
+    match asker.turn(gate) {
         Turn::Moved => None,
         Turn::Idle => None,
         Turn::Ended(how) => Some(how),
@@ -89,7 +84,7 @@ fn by_turns<R: Wait, G: Gate>(
     let mut asked = None;
     let mut served = None;
     for _ in rt.forever() {
-        asked = ask(rt, gate, &mut asker, asked);
+        asked = ask(gate, &mut asker, asked);
         served = serve(rt, gate, &mut server, served);
         if let (Some(a), Some(s)) = (asked, served) {
             return (asker_done(asker, a), server_done(server, s));

@@ -5,8 +5,7 @@ ghost use Rattle.worker_pair.specs.Leaving.{Leaves};
 ghost use Rattle.worker_pair.specs.Workers.{Caused, GoesOn, IsLive, Tried, Turned};
 
 use crate::WorkerDone;
-use device_any::DeviceSeat;
-use device_protocols::DeviceProtocol;
+use device_any::{DeviceProtocol, DeviceSeat};
 use io_edge::Gate;
 use ring_seat::TableSeat;
 use std::sync::Wait;
@@ -71,7 +70,7 @@ impl Worker {
         ensures on { GoesOn self.old self.new }
     {
         match self {
-            Worker::Asks(asker) => asker.turn(rt, gate),
+            Worker::Asks(asker) => asker.turn(gate),
             Worker::Serves(server) => server.turn(rt, gate),
         }
     }

@@ -35,3 +35,14 @@ make_both-requires-clause-guest c = (512 * c.args.pages, omega (arith, c.require
 
 pub make_both-requires-clause-host : goal.make_both-requires-clause-host
 make_both-requires-clause-host c = (512 * c.args.pages, omega (arith, c.requires.pages), omega (arith, c.requires.pages), c.in_ok-guest.ensures.host ∙ ap (λ n. paged_end n (512 * c.args.pages) Host) c.data_pages.ensures.value)
+
+pub make_both-requires-clause-plan : goal.make_both-requires-clause-plan
+make_both-requires-clause-plan c =
+    let count : c.len.result ≡ length c.args.asks.items = omega (arith, c.len.ensures, c.args.asks.ok.0) in
+    record {
+      window = c.requires.window;
+      few = omega (arith, count, c.requires.few);
+      subs = c.requires.subs;
+      stop = c.requires.stop;
+      asks = λ same. (sym count, c.requires.asks);
+    }

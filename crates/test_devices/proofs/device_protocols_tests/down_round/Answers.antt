@@ -1,6 +1,6 @@
 use Rattle.std.proofs.Common.{◌∙◌, Some, ap}
 use Rattle.script_lines.specs.declared.line.Ask.TheVariants.{Ic as AskIc}
-use Rattle.device_formats.proofs.FormatLaws.{down_fits}
+use Rattle.device_kinds.proofs.KindLaws.{down_fits}
 use Rattle.test_devices.proofs.device_protocols_tests.down_round.Goals as goal
 
 pub write_answer-back-requires-clause-fits : goal.write_answer-back-requires-clause-fits

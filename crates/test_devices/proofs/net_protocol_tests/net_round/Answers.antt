@@ -1,6 +1,6 @@
 use Rattle.std.proofs.Common.{◌∙◌, Some, ap}
 use Rattle.script_lines.specs.declared.line.Ask.TheVariants.{Net as AskNet}
-use Rattle.device_formats.proofs.FormatLaws.{net_reply_fits}
+use Rattle.device_kinds.proofs.KindLaws.{net_reply_fits}
 use Rattle.test_devices.proofs.net_protocol_tests.net_round.Goals as goal
 
 pub write_message-len-requires-clause-fits : goal.write_message-len-requires-clause-fits

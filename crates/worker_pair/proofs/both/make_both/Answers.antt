@@ -1,9 +1,21 @@
-use Rattle.std.proofs.Common.{refl, sym}
+use Rattle.std.proofs.Common.{ap, refl, sym, ◌∙◌}
+use Rattle.device_any.specs.Seats.{device_place}
 use Rattle.worker_pair.specs.Pairs.{pages_on}
 use Rattle.worker_pair.specs.Plans.{planned}
+use Rattle.worker_pair.specs.Seats.{side_in}
 use Rattle.worker_pair.specs.declared.worker.Worker.TheVariants.{Asks, Serves}
+use Rattle.worker_pair.proofs.NewEnds.{host_has}
 use Rattle.worker_pair.proofs.Roles.{pair_of, plans_agree, same_pair}
 use Rattle.worker_pair.proofs.both.make_both.Goals as goal
+
+-- the host has the seat, since the guest asks
+pub by_side-requires-clause-host : goal.by_side-requires-clause-host
+by_side-requires-clause-host c =
+    let made = c.in_ok-asker-in-Guest in
+    record {
+      end = ap (λ s. s.machine.side) made.ensures.serving.0 ∙ ap (λ s. s.machine.side) c.requires.host.3;
+      seat = ap (λ s. side_in (device_place s)) made.ensures.server.seat_is ∙ host_has c.args.seat c.args.plan.kind c.requires.seat.0 (sym c.side_that_asks.ensures ∙ c.in-Guest.is);
+    }
 
 pub returns-in_ok-asker-in-Guest-clause-pair : goal.returns-in_ok-asker-in-Guest-clause-pair
 returns-in_ok-asker-in-Guest-clause-pair c =

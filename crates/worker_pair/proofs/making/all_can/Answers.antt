@@ -3,7 +3,7 @@ use Rattle.std.proofs.lemmas.List.{take_all}
 use Rattle.std.specs.List.{AllByRecursion}
 use Rattle.script_lines.specs.Parts.{kind_asked}
 use Rattle.script_lines.specs.WellFormed.{CanGo}
-use Rattle.device_formats.specs.Wants.{IsAskable}
+use Rattle.device_kinds.specs.Kinds.{IsAskable}
 use Rattle.worker_pair.proofs.Opening.{all_more, carried_kind, carried_goes}
 use Rattle.worker_pair.proofs.making.all_can.Goals as goal
 

@@ -1,4 +1,4 @@
-use Rattle.device_formats.proofs.NetLaws.{sent_can}
+use Rattle.device_kinds.proofs.KindLaws.{sent_can}
 use Rattle.worker_pair.proofs.making.message_can.Goals as goal
 
 pub returns : goal.returns

@@ -2,9 +2,8 @@ use Rattle.std.proofs.Common.{List, ap, sym, subst, ◌∙◌}
 use Rattle.ring_core.specs.Seen.{Seen}
 use Rattle.ring_seat.specs.declared.table_seat.TableSeat.{TableSeat}
 use Rattle.bus_script.specs.declared.outcome.Reply.{Reply}
-use Rattle.device_formats.specs.Formats.{format_of}
-use Rattle.device_formats.specs.Items.{said_item}
-use Rattle.device_formats.specs.ChannelScript.{asks_of}
+use Rattle.device_kinds.specs.Formats.{format_of, asks_of}
+use Rattle.device_packets.specs.Said.{said_item}
 use Rattle.worker_port.specs.Line.{IsLine, line_of}
 use Rattle.worker_port.specs.declared.ended.Ended.{Ended}
 use Rattle.worker_requester.specs.Asking.{AsksBy}

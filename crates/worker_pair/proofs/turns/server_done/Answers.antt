@@ -1,5 +1,5 @@
 use Rattle.std.proofs.Common.{ap, sym, subst, ◌∙◌}
-use Rattle.device_formats.specs.Items.{said_item}
+use Rattle.device_packets.specs.Said.{said_item}
 use Rattle.worker_port.specs.Line.{IsLine, line_of}
 use Rattle.worker_pair.specs.Leaving.{told_at}
 use Rattle.worker_pair.proofs.Going.{server_leaves}

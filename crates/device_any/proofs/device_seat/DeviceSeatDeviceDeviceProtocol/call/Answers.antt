@@ -1,4 +1,4 @@
-use Rattle.device_any.proofs.SeatLaws.{beat_fits, down_fits, disk_fits_on, net_fits_on}
+use Rattle.device_any.proofs.SeatLaws.{beat_fits, down_fits, disk_fits_on, net_fits_on, kvp_fits_on}
 use Rattle.device_any.proofs.device_seat.DeviceSeatDeviceDeviceProtocol.call.Goals as goal
 
 pub returns-in-Beat-clause-fits : goal.returns-in-Beat-clause-fits
@@ -12,3 +12,6 @@ returns-in-Disk-clause-fits g c = disk_fits_on c.args.self.now c.args._protocol.
 
 pub returns-in-Net-clause-fits : goal.returns-in-Net-clause-fits
 returns-in-Net-clause-fits g c = net_fits_on c.args.self.now c.args._protocol.now.kind c.args.request c.in-Net.seat c.message_of.result c.with-receipt-in-Net.result.reply c.in-Net.is c.requires.serves c.message_of.ensures c.with-receipt-in-Net.ensures.fits
+
+pub returns-in-Kvp-clause-fits : goal.returns-in-Kvp-clause-fits
+returns-in-Kvp-clause-fits g c = kvp_fits_on c.args.self.now c.args._protocol.now.kind c.args.request c.in-Kvp.seat c.pair_of.result c.with-receipt-in-Kvp.result.reply c.in-Kvp.is c.requires.serves c.pair_of.ensures c.with-receipt-in-Kvp.ensures.fits

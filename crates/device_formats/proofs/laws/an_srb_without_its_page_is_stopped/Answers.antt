@@ -1,5 +1,0 @@
-use Rattle.device_formats.proofs.PageFormatLaws as laws
-use Rattle.device_formats.proofs.laws.an_srb_without_its_page_is_stopped.Goals as goal
-
-pub returns : goal.returns
-returns c = laws.stopped_without_page

@@ -1,0 +1,183 @@
+-- Each kind of device keeps to what kinds keep to, in the steps, requests and replies of all kinds.
+use Rattle.std.proofs.Common.{◌≡◌, ℕ, ◌<◌, ◌≤◌, true, false, List, length, filter, map, Some, Ok, refl, sym, ap, subst, ◌∙◌, arith}
+use Rattle.std.specs.List.{AllByRecursion}
+use Rattle.contact.specs.declared.kind.DeviceKind.{DeviceKind}
+use Rattle.contact.specs.declared.kind.DeviceKind.TheVariants.{Beat, Down, Disk, Net, Kvp}
+use Rattle.util_ic.specs.declared.ic.IcAsk.{IcAsk}
+use Rattle.util_ic.specs.declared.ic.IcAnswer.{IcAnswer}
+use Rattle.util_ic.specs.Asks.{reply_of}
+use Rattle.scsi_disk.specs.DiskModel.{IsSized}
+use Rattle.scsi_disk.specs.declared.request.DiskRequest.{DiskRequest}
+use Rattle.scsi_disk.specs.declared.reply.DiskReply.{DiskReply}
+use Rattle.rndis_msg.specs.declared.rndis.Rndis.{Rndis}
+use Rattle.rndis_msg.specs.declared.rndis.Rndis.TheVariants.{Packet, Query, Set, Reset, Keepalive}
+use Rattle.net_dev.specs.declared.reply.NetReply.{NetReply}
+use Rattle.net_dev.specs.Station.{Keeps as StationKeeps}
+use Rattle.kvp_ic.specs.declared.message.Kvp.{Kvp as Message}
+use Rattle.kvp_ic.specs.declared.message.KvpReply.{KvpReply}
+use Rattle.kvp_ic.specs.Machine.{IsReplyTo}
+use Rattle.kvp_ic.specs.Messages.{CanBeAsked}
+use Rattle.script_lines.specs.Requests.{IsSent}
+use Rattle.script_lines.specs.declared.line.Ask.{Ask}
+use Rattle.script_lines.specs.declared.line.Ask.TheVariants.{Ic as AskIc, Disk as AskDisk, Net as AskNet, Kvp as AskKvp}
+use Rattle.bus_script.specs.declared.outcome.Reply.{Reply}
+use Rattle.bus_script.specs.declared.outcome.Reply.TheVariants.{Ic as ReplyIc, Disk as ReplyDisk, Net as ReplyNet, Kvp as ReplyKvp}
+use Rattle.channel_model.specs.Amounts.{HasNoMessages, MayHaveMessages}
+use Rattle.channel_model.specs.WireFormat.{Keeps}
+use Rattle.channel_model.specs.Channel.{AllFixed, AllAsk}
+use Rattle.channel_protocol.specs.Paged.{KeepsPages}
+use Rattle.device_wire.specs.declared.buffer_lists.BufferLists.{BufferLists}
+use Rattle.device_wire.specs.declared.want.Want.TheVariants.{Request}
+use Rattle.device_wire.specs.WireModels.{KeepsWire}
+use Rattle.device_wire.specs.Lifted.{IsCase}
+use Rattle.device_wire.proofs.LiftedLaws.{kept_lifted, agrees}
+use Rattle.device_wire.proofs.WireLaws as wire
+use Rattle.ic_format.specs.Services.{ic_model, IsIcAsk}
+use Rattle.ic_format.proofs.ServiceLaws.{reply_fits}
+use Rattle.ic_format.proofs.KindLaws.{service_kept}
+use Rattle.disk_format.specs.PageDisks.{disk_model, IsPageAsk}
+use Rattle.disk_format.proofs.DoneLaws.{sized_fits}
+use Rattle.disk_format.proofs.PageFormatLaws.{page_kept as disk_kept}
+use Rattle.net_format.specs.Nets.{can_ask, with_id, request_id_of, IsNetAsk}
+use Rattle.net_format.specs.PageNets.{net_model}
+use Rattle.net_format.proofs.NetLaws.{formed_test, station_fits}
+use Rattle.net_format.proofs.NetPageLaws.{page_kept as net_kept}
+use Rattle.kvp_format.specs.Pairs.{kvp_model}
+use Rattle.kvp_format.proofs.PairLaws.{pair_kept, pair_reply_fits}
+use Rattle.device_kinds.specs.Kinds.{ic_request, disk_request, net_request, kvp_request, ic_reply, disk_reply, net_reply, kvp_reply, services, disks, nets, pairs, model_of, IsAskable}
+use Rattle.device_kinds.specs.Formats.{asked_as, besides_on, encode_on, read_on, fits_on, format_of, has_answer_on, lends_on, startup}
+
+-- a request and a reply of a kind are those that are found in them
+
+service_whole : (ask : Ask) (q : IcAsk) → ic_request ask ≡ Some q → AskIc q ≡ ask
+service_whole (AskIc x) q h = let same : x ≡ q = cc in ap AskIc (sym same)
+service_whole _ q h = cc
+
+disk_whole : (ask : Ask) (q : DiskRequest) → disk_request ask ≡ Some q → AskDisk q ≡ ask
+disk_whole (AskDisk x) q h = let same : x ≡ q = cc in ap AskDisk (sym same)
+disk_whole _ q h = cc
+
+net_whole : (ask : Ask) (q : Rndis) → net_request ask ≡ Some q → AskNet q ≡ ask
+net_whole (AskNet x) q h = let same : x ≡ q = cc in ap AskNet (sym same)
+net_whole _ q h = cc
+
+kvp_whole : (ask : Ask) (q : Message) → kvp_request ask ≡ Some q → AskKvp q ≡ ask
+kvp_whole (AskKvp x) q h = let same : x ≡ q = cc in ap AskKvp (sym same)
+kvp_whole _ q h = cc
+
+service_replied : (reply : Reply) (r : IcAnswer) → ic_reply reply ≡ Some r → ReplyIc r ≡ reply
+service_replied (ReplyIc x) r h = let same : x ≡ r = cc in ap ReplyIc (sym same)
+service_replied _ r h = cc
+
+disk_replied : (reply : Reply) (r : DiskReply) → disk_reply reply ≡ Some r → ReplyDisk r ≡ reply
+disk_replied (ReplyDisk x) r h = let same : x ≡ r = cc in ap ReplyDisk (sym same)
+disk_replied _ r h = cc
+
+net_replied : (reply : Reply) (r : NetReply) → net_reply reply ≡ Some r → nets.reply r ≡ reply
+net_replied (ReplyNet status back) r h =
+    let own : NetReply = record { status = status; back = back } in
+    let same : own ≡ r = cc in ap nets.reply (sym same)
+net_replied _ r h = cc
+
+kvp_replied : (reply : Reply) (r : KvpReply) → kvp_reply reply ≡ Some r → ReplyKvp r ≡ reply
+kvp_replied (ReplyKvp x) r h = let same : x ≡ r = cc in ap ReplyKvp (sym same)
+kvp_replied _ r h = cc
+
+pub case_services : IsCase services
+case_services = record { step_found = λ s. refl; found = λ q. refl; asked = service_whole; replied = service_replied }
+
+pub case_disks : IsCase disks
+case_disks = record { step_found = λ s. refl; found = λ q. refl; asked = disk_whole; replied = disk_replied }
+
+pub case_nets : IsCase nets
+case_nets = record { step_found = λ s. refl; found = λ q. refl; asked = net_whole; replied = net_replied }
+
+pub case_pairs : IsCase pairs
+case_pairs = record { step_found = λ s. refl; found = λ q. refl; asked = kvp_whole; replied = kvp_replied }
+
+-- a row a kind
+
+pub kept_by : (kind : DeviceKind) → KeepsWire (model_of kind) (IsAskable kind)
+kept_by Beat = kept_lifted services case_services (ic_model Beat) (IsIcAsk Beat) (service_kept Beat)
+kept_by Down = kept_lifted services case_services (ic_model Down) (IsIcAsk Down) (service_kept Down)
+kept_by Disk = kept_lifted disks case_disks disk_model IsPageAsk disk_kept
+kept_by Net = kept_lifted nets case_nets net_model IsNetAsk net_kept
+kept_by Kvp = kept_lifted pairs case_pairs kvp_model CanBeAsked pair_kept
+
+asked_so : (kind : DeviceKind) (id : ℕ) (ask : Ask) → IsAskable kind ask → (model_of kind).asked_as id ask ≡ asked_as id ask
+asked_so Beat id ask can = agrees services case_services (λ id q. q) asked_as (IsIcAsk Beat) (λ id q. refl) id ask can
+asked_so Down id ask can = agrees services case_services (λ id q. q) asked_as (IsIcAsk Down) (λ id q. refl) id ask can
+asked_so Disk id ask can = agrees disks case_disks (λ id q. q) asked_as IsPageAsk (λ id q. refl) id ask can
+asked_so Net id ask can = agrees nets case_nets (λ id m. with_id (request_id_of id) m) asked_as IsNetAsk (λ id q. refl) id ask can
+asked_so Kvp id ask can = agrees pairs case_pairs (λ id q. q) asked_as CanBeAsked (λ id q. refl) id ask can
+
+-- what follows for all kinds
+
+pub keeps : (kind : DeviceKind) → Keeps (format_of kind)
+keeps kind = (kept_by kind).keeps
+
+pub may_have : (kind : DeviceKind) → MayHaveMessages (format_of kind) (besides_on kind)
+may_have kind = (kept_by kind).may
+
+pub no_messages : (kind : DeviceKind) → besides_on kind ≡ false → HasNoMessages (format_of kind)
+no_messages kind = wire.no_messages (model_of kind) (IsAskable kind) (kept_by kind)
+
+pub pages_kept : (kind : DeviceKind) → lends_on kind ≡ true → KeepsPages (format_of kind)
+pages_kept kind lends = (kept_by kind).paged lends
+
+pub start_is_fixed : (kind : DeviceKind) (sub subs : ℕ) (lists : BufferLists) → AllFixed (format_of kind) (startup kind sub subs lists)
+start_is_fixed kind = wire.start_is_fixed (model_of kind) (IsAskable kind) (kept_by kind)
+
+pub few_starts : (kind : DeviceKind) (sub subs : ℕ) (lists : BufferLists) → length (startup kind sub subs lists) ≤ 5
+few_starts kind = wire.few_starts (model_of kind) (IsAskable kind) (kept_by kind)
+
+pub same_starts : (kind : DeviceKind) (sub subs : ℕ) (lists others : BufferLists) → length (startup kind sub subs lists) ≡ length (startup kind sub subs others)
+same_starts kind = wire.same_starts (model_of kind) (IsAskable kind) (kept_by kind)
+
+pub same_answers : (kind : DeviceKind) (sub subs : ℕ) (lists others : BufferLists) → length (filter (has_answer_on kind) (startup kind sub subs lists)) ≡ length (filter (has_answer_on kind) (startup kind sub subs others))
+same_answers kind = wire.same_answers (model_of kind) (IsAskable kind) (kept_by kind)
+
+-- as many of its steps have answers as its kind says
+pub answers_counted : (kind : DeviceKind) (subs : ℕ) (lists : BufferLists) → length (filter (has_answer_on kind) (startup kind 0 subs lists)) ≡ wire.ones (map (model_of kind).answered ((model_of kind).steps subs lists))
+answers_counted kind subs lists = wire.filter_ones (has_answer_on kind) (model_of kind).answered ((model_of kind).steps subs lists) (kept_by kind).waits
+
+-- the device is asked what the script asked, and each request has an answer
+pub asked_is : (kind : DeviceKind) (id : ℕ) (ask : Ask) → IsAskable kind ask → read_on kind (encode_on kind id (Request ask)) ≡ Some (asked_as id ask)
+asked_is kind id ask can = (kept_by kind).asked id ask can ∙ ap Some (asked_so kind id ask can)
+
+pub script_asks : (kind : DeviceKind) (asks : List Ask) → AllByRecursion (IsAskable kind) asks → AllAsk (format_of kind) (map Request asks)
+script_asks kind = wire.script_asks (model_of kind) (IsAskable kind) (kept_by kind)
+
+pub script_waits : (kind : DeviceKind) (ask : Ask) → IsAskable kind ask → has_answer_on kind (Request ask) ≡ true
+script_waits kind = wire.script_waits (model_of kind) (IsAskable kind) (kept_by kind)
+
+-- each reply of a service, of a disk, of an adapter, or of a key-value service fits
+pub beat_fits : (q : IcAsk) (r : IcAnswer) → r ≡ reply_of Beat q → fits_on Beat (AskIc q) (ReplyIc r) ≡ true
+beat_fits q r is = reply_fits Beat q r is
+
+pub down_fits : (q : IcAsk) (r : IcAnswer) → r ≡ reply_of Down q → fits_on Down (AskIc q) (ReplyIc r) ≡ true
+down_fits q r is = reply_fits Down q r is
+
+pub disk_reply_fits : (q : DiskRequest) (r : DiskReply) → IsSized q r → fits_on Disk (AskDisk q) (ReplyDisk r) ≡ true
+disk_reply_fits q r sized = sized_fits q r sized
+
+pub net_reply_fits : (q : Rndis) (r : NetReply) → StationKeeps (Ok q) r → fits_on Net (AskNet q) (ReplyNet r.status r.back) ≡ true
+net_reply_fits q r keeps = station_fits q r keeps
+
+pub kvp_reply_fits : (q : Message) (r : KvpReply) → IsReplyTo q r → fits_on Kvp (AskKvp q) (ReplyKvp r) ≡ true
+kvp_reply_fits q r reply = pair_reply_fits q r reply
+
+-- each message that a line of a script sends can be asked
+pub sent_can : (m : Rndis) → IsSent m → can_ask m ≡ true
+unfolding can_ask
+sent_can (Packet body) sent = formed_test (Packet body) (record { fields = tt; few = sent.1 }) sent.2
+sent_can (Query request_id oid body) sent =
+    let none = sent.2 in
+    let small = sent.0 in
+    formed_test (Query request_id oid body) (record { fields = (omega (arith, small), (omega (arith, sent.1), tt)); few = omega (arith, ap length none) }) (subst (AllByRecursion (λ b. b < 256)) (sym none) tt)
+sent_can (Set request_id oid body) sent =
+    let small = sent.0 in
+    formed_test (Set request_id oid body) (record { fields = (omega (arith, small), (omega (arith, sent.1), tt)); few = omega (arith, sent.3) }) sent.4
+sent_can Reset sent = formed_test Reset (record { fields = tt; few = omega arith }) tt
+sent_can (Keepalive request_id) sent = let small = sent in formed_test (Keepalive request_id) (record { fields = (omega (arith, small), tt); few = omega arith }) tt
+sent_can m sent = absurd sent

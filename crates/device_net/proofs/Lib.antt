@@ -1,0 +1,4 @@
+pub mod CameLaws
+pub mod NetCameLaws
+pub mod NetFixedLaws
+pub mod AskableLaws

@@ -1,0 +1,4 @@
+pub mod ByteLaws
+pub mod PacketLaws
+pub mod LoanLaws
+pub mod SaidLaws

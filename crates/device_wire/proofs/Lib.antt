@@ -1,0 +1,4 @@
+pub mod CodecLaws
+pub mod LiftedLaws
+pub mod WireLaws
+pub mod ProtocolLaws

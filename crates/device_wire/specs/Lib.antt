@@ -1,0 +1,4 @@
+pub mod Codecs
+pub mod WireModels
+pub mod Lifted
+pub mod EndScripts

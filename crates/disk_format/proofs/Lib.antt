@@ -1,0 +1,8 @@
+pub mod VstorLaws
+pub mod DiskLaws
+pub mod DoneLaws
+pub mod SpanLaws
+pub mod PageDiskLaws
+pub mod PageDoneLaws
+pub mod SaidLaws
+pub mod PageFormatLaws

@@ -1,0 +1,4 @@
+pub mod NetLaws
+pub mod TransferLaws
+pub mod PageNetLaws
+pub mod NetPageLaws
