@@ -57,6 +57,7 @@ static void channel_offers(void)
         {VMBUS_HEARTBEAT, 0, "57164f39-9115-4e78-ab55-382f3bd5422d"}, {VMBUS_SHUTDOWN, 0, "0e0b6031-5213-4934-818b-38d90ced39db"},
         {VMBUS_SCSI, 0, "ba6163d9-04a1-4d29-b605-72e2ffb1dc7f"},      {VMBUS_NETWORK, 0, "f8615163-df3e-46c5-913f-f2d2f965ed0e"},
         {VMBUS_SOCKET, 0, "00000000-facb-11e6-bd58-64006a7986d3"},    {VMBUS_SOCKET, 0x12345678, "12345678-facb-11e6-bd58-64006a7986d3"},
+        {VMBUS_KEY_VALUE, 0, "a9a0f4e7-5a45-4d96-b827-8a841e8c03e6"},
     };
     for (size_t i = 0; i < sizeof kinds / sizeof *kinds; i++) {
         uint8_t b[VMBUS_MESSAGE_MOST] = {0}, out[VMBUS_MESSAGE_MOST];
@@ -77,7 +78,7 @@ static void channel_offers(void)
         again = o;
         again.sub += 0x10000;
         o.port += o.kind == VMBUS_SOCKET ? 0 : 1;
-        o.kind += o.kind == VMBUS_SOCKET ? 1 : 0;
+        o.kind += o.kind == VMBUS_SOCKET ? 2 : 0;
         if (vmbus_offer_write(&o, out, sizeof out, &len) != VMBUS_NO_FORM || vmbus_offer_write(&again, out, sizeof out, &len) != VMBUS_NO_FORM)
             fail("a number that no offer has is passed over");
         offers++;

@@ -1,11 +1,11 @@
 #!/bin/sh
 # Proves the static libraries, and builds and runs the examples with cc. What recorded.c records has to be a run of both ends; a guest that raises no signal shows in its record once its peer looks for one.
 cd "$(dirname "$0")/../../crates" || exit 2
-for name in vmbus_c vmbus_control_c vmbus_net_c vmbus_stor_c vmbus_ring_c ring_plan_c page_plan_c; do
+for name in vmbus_c vmbus_control_c vmbus_net_c vmbus_stor_c vmbus_ring_c ring_call_plan_c page_call_plan_c; do
     (cd $name && rt lib) || exit 1
 done
 cd ../examples/c || exit 2
-libraries="../../crates/vmbus_c/out/libvmbus_c.a ../../crates/vmbus_control_c/out/libvmbus_control_c.a ../../crates/vmbus_net_c/out/libvmbus_net_c.a ../../crates/vmbus_stor_c/out/libvmbus_stor_c.a ../../crates/vmbus_ring_c/out/libvmbus_ring_c.a ../../crates/ring_plan_c/out/libring_plan_c.a ../../crates/page_plan_c/out/libpage_plan_c.a"
+libraries="../../crates/vmbus_c/out/libvmbus_c.a ../../crates/vmbus_control_c/out/libvmbus_control_c.a ../../crates/vmbus_net_c/out/libvmbus_net_c.a ../../crates/vmbus_stor_c/out/libvmbus_stor_c.a ../../crates/vmbus_ring_c/out/libvmbus_ring_c.a ../../crates/ring_call_plan_c/out/libring_call_plan_c.a ../../crates/page_call_plan_c/out/libpage_call_plan_c.a"
 cc -O2 -Wall -Wextra -o example example.c $libraries && ./example || exit 1
 cc -O2 -Wall -Wextra -o two_processes two_processes.c $libraries && ./two_processes || exit 1
 cc -O2 -Wall -Wextra -o lent_page lent_page.c $libraries && ./lent_page || exit 1

@@ -1,5 +1,5 @@
 /* A heartbeat between two processes: both ends of a channel over pages that they share, with Linux's layout, each asleep on its own signal where it has nothing to do. The host asks, and the guest
-   answers. The ends are those by plans (crates/ring_plan_c), the answers are crates/vmbus_c's. For Linux: memfd_create, mmap, eventfd, fork. */
+   answers. The ends are those by plans (crates/ring_call_plan_c), the answers are crates/vmbus_c's. For Linux: memfd_create, mmap, eventfd, fork. */
 #define _GNU_SOURCE
 #define PAGE 4096
 #define RING (4 * PAGE) /* bytes of data of each ring */

@@ -1,5 +1,5 @@
 /* Calls of the static libraries vmbus_c (control messages, packets, services, signals), vmbus_control_c (versions, offers, page lists), vmbus_net_c (NVSP and Remote NDIS), vmbus_stor_c
-   (storage packets) and, for the ends of a channel, ring_plan_c, page_plan_c (its data pages) and vmbus_ring_c. Nothing takes memory, and nothing is kept between calls. A null pointer with length 0 is an empty slice. What each call gives is proved
+   (storage packets) and, for the ends of a channel, ring_call_plan_c, page_call_plan_c (its data pages) and vmbus_ring_c. Nothing takes memory, and nothing is kept between calls. A null pointer with length 0 is an empty slice. What each call gives is proved
    there; here is what C has to know of it. Each call is total: whatever the numbers that it is given, it answers as is said here, and touches no memory but that. Every pointer is to
    private memory, never into pages that a peer shares: a call may read a byte twice, and rests on reading the same. Slices that are written overlap no other argument.
 
@@ -107,6 +107,7 @@ enum vmbus_kind {
     VMBUS_SCSI = 3,
     VMBUS_NETWORK = 4,
     VMBUS_SOCKET = 5, /* a service that listens at a port (net/vmw_vsock/hyperv_transport.c) */
+    VMBUS_KEY_VALUE = 6, /* key-value exchange (drivers/hv/hv_kvp.c) */
 };
 
 /* What an offer says of its channel. */
@@ -434,7 +435,7 @@ bool vmbus_end_feed(struct vmbus_end *end, uint64_t value);
 #define VMBUS_LINE 96
 size_t vmbus_end_step_line(const struct vmbus_end *end, const uint64_t *packet, size_t len, uint64_t value, uint8_t *line, size_t room);
 
-/* ---- An end by plans (crates/ring_plan_c): C loads the few words that decide, and a call says what C copies and stores. docs/C.md has the rules. ---- */
+/* ---- An end by plans (crates/ring_call_plan_c): C loads the few words that decide, and a call says what C copies and stores. docs/C.md has the rules. ---- */
 
 /* One end. C reads it, keeps it in private memory and copies it, and changes it by the calls below alone: a call refuses (VMBUS_NO_CALL) an end whose numbers are in no form. */
 struct vmbus_plan_end {
@@ -485,7 +486,7 @@ uint32_t vmbus_arm_done(struct vmbus_plan_end *end, uint32_t write, uint32_t rea
 uint32_t vmbus_poll_done(struct vmbus_plan_end *end, uint64_t signal);
 uint32_t vmbus_mark_done(struct vmbus_plan_end *end);
 
-/* ---- Data pages by plans (crates/page_plan_c): which pages an end has, has lent and holds, and what it may store, load, lend and complete. docs/C.md has the rules. ---- */
+/* ---- Data pages by plans (crates/page_call_plan_c): which pages an end has, has lent and holds, and what it may store, load, lend and complete. docs/C.md has the rules. ---- */
 
 /* What an end has to do with a page of its channel. Another number than these is VMBUS_PAGE_AWAY too. */
 enum vmbus_page_owner {

@@ -1,33 +1,33 @@
 -- The outcomes of a channel's requests, along the requests.
-use Rattle.std.proofs.Common.{◌≡◌, ℕ, zero, suc, ◌+◌, ◌-◌, ◌≤◌, Bool, true, false, List, [], ◌∷◌, ◌++◌, length, refl, ap, ◌∙◌, subst, arith, Option, Some, None}
+use Rattle.std.proofs.Common.{◌≡◌, ℕ, zero, suc, ◌+◌, ◌-◌, ◌*◌, ◌≤◌, Bool, true, false, List, [], ◌∷◌, ◌++◌, length, refl, ap, ◌∙◌, subst, arith, Option, Some, None}
 use Rattle.std.specs.Prelude.{map, take, drop, replicate, min, nat_le, slice_get, if◌then◌else◌}
 use Rattle.std.specs.List.{AllByRecursion}
 use Rattle.script_lines.specs.declared.line.Ask.{Ask}
-use Rattle.script_lines.specs.declared.line.Ask.TheVariants.{Ic as AskIc, Disk as AskDisk, Net as AskNet}
+use Rattle.script_lines.specs.declared.line.Ask.TheVariants.{Ic as AskIc, Disk as AskDisk, Net as AskNet, Kvp as AskKvp}
 use Rattle.rndis_msg.specs.declared.rndis.Rndis.{Rndis}
 use Rattle.rndis_msg.specs.declared.rndis.Rndis.TheVariants.{Query, Set, Keepalive}
 use Rattle.rndis_msg.specs.Messages.{body_of}
-use Rattle.device_formats.specs.Nets.{with_id, request_id_of}
-use Rattle.device_formats.specs.Formats.{asked_as}
+use Rattle.net_format.specs.Nets.{with_id, request_id_of}
+use Rattle.device_kinds.specs.Formats.{asked_as}
 use Rattle.bus_script.specs.declared.outcome.Reply.{Reply}
 use Rattle.bus_script.specs.declared.outcome.LineResult.{LineResult}
 use Rattle.bus_script.specs.declared.outcome.LineResult.TheVariants.{Unserved}
-use Rattle.bus_script.specs.Report.{reply_runs, result_runs}
+use Rattle.bus_script.specs.Report.{reply_room, result_room}
 use Rattle.device_kinds.specs.Served.{Served, done_of}
 use Rattle.bus_model.specs.Channel.{asked_under, rescinded_of, outcomes_by}
 use Rattle.bus_model.proofs.Lists.{IfThere}
-use Rattle.bus_report_bound.specs.Laws.{data_of}
+use Rattle.bus_report_bound.specs.Laws.{room_of}
 
--- a reply has few runs beside the bytes that were sent
+-- a reply has the room of its request
 abbrev pub FewReply : Ask → Reply → Type 0
-FewReply ask reply = reply_runs reply ≤ 40 + data_of ask
+FewReply ask reply = reply_room reply ≤ room_of ask
 
 abbrev pub FewServed : List Served → Type 0
 FewServed served = AllByRecursion (λ s. FewReply s.request s.reply) served
 
--- and an outcome, where so many were
+-- and an outcome so much
 abbrev pub FewFor : ℕ → LineResult → Type 0
-FewFor n r = result_runs r ≤ 40 + n
+FewFor n r = result_room r ≤ n
 
 -- a message has the same buffer under each id
 
@@ -37,17 +37,18 @@ same_body id (Set request_id oid body) = refl
 same_body id (Keepalive request_id) = refl
 same_body id m = refl
 
-same_data : (id : ℕ) (ask : Ask) → data_of (asked_as id ask) ≡ data_of ask
-same_data id (AskIc ask) = refl
-same_data id (AskDisk request) = refl
-same_data id (AskNet message) = ap length (same_body (request_id_of id) message)
+same_room : (id : ℕ) (ask : Ask) → room_of (asked_as id ask) ≡ room_of ask
+same_room id (AskIc ask) = refl
+same_room id (AskDisk request) = refl
+same_room id (AskNet message) = ap (λ b. 24 * (40 + length b)) (same_body (request_id_of id) message)
+same_room id (AskKvp request) = refl
 
 -- what was served, along the requests
 
 abbrev FewAlong : List Ask → List Served → Type 0
 FewAlong [] served = Unit {0}
 FewAlong (a ∷ asks) [] = Unit {0}
-FewAlong (a ∷ asks) (s ∷ served) = (reply_runs s.reply ≤ 40 + data_of a) × FewAlong asks served
+FewAlong (a ∷ asks) (s ∷ served) = (reply_room s.reply ≤ room_of a) × FewAlong asks served
 
 abbrev no_asks : List Ask
 no_asks = []
@@ -64,7 +65,7 @@ served_along zero (id ∷ ids) (a ∷ asks) (s ∷ served) serves few = absurd (
 served_along (suc n) (id ∷ ids) (a ∷ asks) (s ∷ served) serves few =
     let head : s.request ≡ asked_as id a = cc in
     let tail : map (λ (s : Served). s.request) served ≡ take n (asked_under ids asks) = cc in
-    (omega (arith, few.0, ap data_of head, same_data id a), served_along n ids asks served tail few.1)
+    (omega (arith, few.0, ap room_of head, same_room id a), served_along n ids asks served tail few.1)
 
 take_along : (n : ℕ) (asks : List Ask) (served : List Served) → FewAlong asks served → FewAlong asks (take n served)
 take_along n [] served few = tt
@@ -78,11 +79,11 @@ take_along (suc n) (a ∷ asks) (s ∷ served) few = (few.0, take_along n asks s
 abbrev Along : List Ask → List LineResult → Type 0
 Along [] results = Unit {0}
 Along (a ∷ asks) [] = Unit {0}
-Along (a ∷ asks) (r ∷ results) = FewFor (data_of a) r × Along asks results
+Along (a ∷ asks) (r ∷ results) = FewFor (room_of a) r × Along asks results
 
 -- outcomes that bring nothing back
 abbrev Bare : List LineResult → Type 0
-Bare results = AllByRecursion (λ r. result_runs r ≤ 0) results
+Bare results = AllByRecursion (λ r. result_room r ≤ 0) results
 
 bare_along : (asks : List Ask) (results : List LineResult) → Bare results → Along asks results
 bare_along [] results bare = tt
@@ -116,13 +117,13 @@ outcomes_along (Some (k, true)) m asks served few = by_flag (nat_le k m)
     by_flag true = done_along asks (take (k - 1) served) (map rescinded_of (drop (k - 1) served) ++ replicate (m - k) Unserved) (take_along (k - 1) asks served few) (rescinded_bare (drop (k - 1) served) (m - k))
     by_flag false = all_along asks served few
 
-at_along : (asks : List Ask) (results : List LineResult) (i : ℕ) (ask : Ask) → Along asks results → slice_get asks i ≡ Some ask → IfThere (FewFor (data_of ask)) (slice_get results i)
+at_along : (asks : List Ask) (results : List LineResult) (i : ℕ) (ask : Ask) → Along asks results → slice_get asks i ≡ Some ask → IfThere (FewFor (room_of ask)) (slice_get results i)
 at_along [] results i ask along at = absurd (cc)
 at_along (a ∷ asks) [] i ask along at = tt
-at_along (a ∷ asks) (r ∷ results) zero ask along at = let same : a ≡ ask = cc in subst (λ x. FewFor (data_of x) r) same along.0
+at_along (a ∷ asks) (r ∷ results) zero ask along at = let same : a ≡ ask = cc in subst (λ x. FewFor (room_of x) r) same along.0
 at_along (a ∷ asks) (r ∷ results) (suc i) ask along at = at_along asks results i ask along.1 at
 
 -- the outcome of a request brings back no more than the reply to it
 pub outcome_few : (stop : Option (ℕ × Bool)) (m n i : ℕ) (ids : List ℕ) (asks : List Ask) (served : List Served) (ask : Ask) → map (λ s. s.request) served ≡ take n (asked_under ids asks) → FewServed served → slice_get asks i ≡ Some ask
-    → IfThere (FewFor (data_of ask)) (slice_get (outcomes_by stop m served) i)
+    → IfThere (FewFor (room_of ask)) (slice_get (outcomes_by stop m served) i)
 outcome_few stop m n i ids asks served ask serves few at = at_along asks (outcomes_by stop m served) i ask (outcomes_along stop m asks served (served_along n ids asks served serves few)) at

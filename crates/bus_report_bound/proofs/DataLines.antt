@@ -15,9 +15,10 @@ use Rattle.script_text.specs.Forms.{is_name, is_oid, are_bytes, bytes_of, oid_of
 use Rattle.script_text.specs.Words.{is_word, words}
 use Rattle.script_lines.specs.declared.line.Line.{Line}
 use Rattle.script_lines.specs.declared.asked.Asked.{Asked}
-use Rattle.script_lines.specs.declared.asked.Asked.TheVariants.{Beat, Down, Command, Message}
+use Rattle.script_lines.specs.declared.asked.Asked.TheVariants.{Beat, Down, Command, Message, Pair}
 use Rattle.script_lines.specs.declared.said.Said.{Said}
 use Rattle.script_lines.specs.declared.said.Said.TheVariants.{Nothing, Contact, Offer, Bad, Ring, Window, Request, Rescind, Close, Modify, Phase}
+use Rattle.script_lines.specs.PairRows.{operation_row, pair_row}
 use Rattle.script_lines.specs.Rows as rows
 use Rattle.script_lines.specs.Rows.{sized, begins_comment, is_printable, said_in, said_by}
 use Rattle.script_lines.specs.Faults.{device_said, fault_at}
@@ -80,6 +81,7 @@ data_asked (Beat seq) = 0
 data_asked (Down flags) = 0
 data_asked (Command ask) = 0
 data_asked (Message message) = length (body_of (unwrap_or message Reset))
+data_asked (Pair request) = 0
 
 abbrev data_said : Said → ℕ
 data_said Nothing = 0
@@ -155,7 +157,7 @@ offer_half n [] = omega arith
 offer_half n (kind ∷ others) =
     half_if n (bytes_eq kind (codes "hb")) _ _ (half_map n _ (rows.name_alone others) (λ a. refl))
     (half_if n (bytes_eq kind (codes "shutdown")) _ _ (half_map n _ (rows.name_alone others) (λ a. refl))
-    (half_if n (bytes_eq kind (codes "disk")) _ _ (half_map n _ (rows.name_and_two others) (λ a. refl)) (half_if n (bytes_eq kind (codes "net")) _ _ (net_offer_half n others) (half_none n))))
+    (half_if n (bytes_eq kind (codes "disk")) _ _ (half_map n _ (rows.name_and_two others) (λ a. refl)) (half_if n (bytes_eq kind (codes "net")) _ _ (net_offer_half n others) (half_if n (bytes_eq kind (codes "kvp")) _ _ (half_map n _ (rows.name_alone others) (λ a. refl)) (half_none n)))))
 
 write_half : (n : ℕ) (others : List (List ℕ)) → Half n (rows.write_row others)
 write_half n [] = omega arith
@@ -195,13 +197,18 @@ phase_half : (n : ℕ) (others : List (List ℕ)) → Half n (rows.phase_row oth
 phase_half n [] = omega arith
 phase_half n (a ∷ others) = omega arith
 
+pair_half : (n : ℕ) (others : List (List ℕ)) → Half n (pair_row others)
+pair_half n [] = omega arith
+pair_half n (a ∷ []) = omega arith
+pair_half n (a ∷ b ∷ others) = half_if n _ _ None (half_map n _ (operation_row b others) (λ request. refl)) (half_none n)
+
 net_half : (key : List ℕ) (others : List (List ℕ)) → Half (total others) (rows.net_row key others)
 net_half key others =
     let n = total others in
     half_if n (bytes_eq key (codes "query")) _ _ (query_half n others)
     (half_if n (bytes_eq key (codes "set")) _ _ (set_half others)
     (half_if n (bytes_eq key (codes "keep")) _ _ (half_map n _ (rows.name_alone others) (λ a. refl))
-    (half_if n (bytes_eq key (codes "reset")) _ _ (half_map n _ (rows.name_alone others) (λ a. refl)) (half_if n (bytes_eq key (codes "frame")) _ _ (frame_half others) (half_none n)))))
+    (half_if n (bytes_eq key (codes "reset")) _ _ (half_map n _ (rows.name_alone others) (λ a. refl)) (half_if n (bytes_eq key (codes "frame")) _ _ (frame_half others) (half_if n (bytes_eq key (codes "kvp")) _ _ (pair_half n others) (half_none n))))))
 
 disk_half : (key : List ℕ) (others : List (List ℕ)) → Half (total others) (rows.disk_row key others)
 disk_half key others =
@@ -245,6 +252,7 @@ asked_data number name o (Beat seq) = omega arith
 asked_data number name o (Down flags) = omega arith
 asked_data number name o (Command ask) = omega arith
 asked_data number name o (Message message) = omega arith
+asked_data number name o (Pair request) = omega arith
 
 what_data : (number : ℕ) (device : Option ℕ) (said : Said) → data_by (numbered number (what_of device said)) ≤ data_said said
 what_data number device Nothing = omega arith

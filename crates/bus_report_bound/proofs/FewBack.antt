@@ -5,14 +5,14 @@ use Rattle.std.specs.List.{AllByRecursion, flat_map, onto_first, slice_split}
 use Rattle.std.proofs.lemmas.Bool.Decides.{nat_tests}
 use Rattle.std.proofs.lemmas.Grind.{flat_map-append}
 use Rattle.std.proofs.lemmas.List.{length-map}
-use Rattle.std.proofs.lemmas.List.Sums.{sum_by-cons, count_by-le-length}
+use Rattle.std.proofs.lemmas.List.Sums.{sum_by-cons}
 use Rattle.contact.specs.declared.kind.DeviceKind.{DeviceKind}
 use Rattle.scsi_disk.proofs.RoomLaws.{by_test}
 use Rattle.script_lines.specs.declared.line.Line.{Line}
 use Rattle.script_lines.specs.declared.line.What.{What}
 use Rattle.script_lines.specs.declared.line.What.TheVariants.{Contact as IsContact, Offer as IsOffer, Bad as IsBad, RingSize as IsRingSize, Window as IsWindow, Ask as IsAsk, Rescind as IsRescind, Shut as IsShut, Modify as IsModify, Phase as IsPhase}
 use Rattle.script_lines.specs.declared.line.Ask.{Ask}
-use Rattle.script_lines.specs.declared.line.Ask.TheVariants.{Ic as AskIc, Disk as AskDisk, Net as AskNet}
+use Rattle.script_lines.specs.declared.line.Ask.TheVariants.{Ic as AskIc, Disk as AskDisk, Net as AskNet, Kvp as AskKvp}
 use Rattle.script_lines.specs.declared.line.DeviceSpec.{DeviceSpec}
 use Rattle.script_lines.specs.Lines.{Says, Asks, Rescinds, Shuts, Modifies, said, is_phase}
 use Rattle.script_lines.specs.Parts.{ends_part, parts, offered, offered_by, channels_of, kind_of, kind_asked}
@@ -24,20 +24,19 @@ use Rattle.script_phases.specs.Openings.{Opening, Phase, subs_of, is_opened, sub
 use Rattle.script_phases.specs.Shares.{share}
 use Rattle.bus_script.specs.declared.outcome.LineResult.{LineResult}
 use Rattle.bus_script.specs.declared.outcome.LineResult.TheVariants.{Modified, Unsupported, Gone, Closed}
-use Rattle.bus_script.specs.Report.{prints, result_runs, runs_back}
+use Rattle.bus_script.specs.Report.{result_room, room_back}
 use Rattle.script_lines.proofs.Plain.{PlainAsk, PlainSays, PlainLine, script_plain}
 use Rattle.channel_model.specs.Roles.{side_that_asks}
-use Rattle.device_formats.specs.Formats.{asked_as}
+use Rattle.device_kinds.specs.Formats.{asked_as}
 use Rattle.device_kinds.specs.Served.{Served}
 use Rattle.bus_model.specs.Orders.{order_of}
 use Rattle.bus_model.specs.Channel.{asked_under, asked_by, served_count}
 use Rattle.device_kinds.specs.Logs.{Recorded}
 use Rattle.bus_model.specs.Run.{Carried, IsCarried, seats_of, EachGrows, Source, Known, AskedOf, known_or, modified_by, source_of, sources_from, outcome_at, PhaseRuns, RunsOf, over, then_on}
 use Rattle.bus_model.specs.declared.channel_run.ChannelRun.{ChannelRun}
-use Rattle.bus_model.proofs.Counting.{one_each_lem}
 use Rattle.bus_model.proofs.Lists.{each_append, each_map, each_unmap, each_if, each_filter, each_unfilter, each_split, each_swap, IfThere}
 use Rattle.bus_model.proofs.SeatLogs.{grows_with}
-use Rattle.bus_report_bound.specs.Laws.{data_of, data_in, data_by, FewRunsBack, ReportFits}
+use Rattle.bus_report_bound.specs.Laws.{data_in, data_by, room_of, room_in, room_by, FewRunsBack, ReportFits}
 use Rattle.bus_report_bound.proofs.Along.{FewReply, FewServed, FewFor}
 use Rattle.bus_report_bound.proofs.DataLines.{data_stands}
 use Rattle.bus_report_bound.proofs.Replies.{PlainLog, FewLog, histories_few}
@@ -87,6 +86,7 @@ same_plain : (id : ℕ) (ask : Ask) → PlainAsk ask → PlainAsk (asked_as id a
 same_plain id (AskIc ask) plain = tt
 same_plain id (AskDisk request) plain = plain
 same_plain id (AskNet message) plain = tt
+same_plain id (AskKvp request) plain = tt
 
 under_plain : (ids : List ℕ) (asks : List Ask) → AllByRecursion PlainAsk asks → AllByRecursion PlainAsk (asked_under ids asks)
 under_plain [] asks plain = tt
@@ -177,7 +177,7 @@ channels_few many (c ∷ channels) within few =
     let here : nat_eq c.opening.device c.opening.device ≡ true = grind (arith, nat_tests) in
     (few.0 c.opening.device (omega arith, omega (arith, within.0)) here, channels_few many channels within.1 few.1)
 
--- where outcomes come from, and how much the lines sent
+-- where outcomes come from, and how much room the lines have
 
 abbrev Each2 : {A B : Type 0} → (A → B → Type 0) → List A → List B → Type 0
 Each2 P [] [] = Unit {0}
@@ -191,14 +191,14 @@ each2_append P [] xs' (y ∷ ys) ys' first second = absurd first
 each2_append P (x ∷ xs) xs' [] ys' first second = absurd first
 each2_append P (x ∷ xs) xs' (y ∷ ys) ys' first second = (first.0, each2_append P xs xs' ys ys' first.1 second)
 
--- what each line that prints sent
+-- what each line that prints has
 abbrev sent_by : What → List ℕ
 sent_by (IsContact guest host) = 0 ∷ []
 sent_by (IsOffer name spec) = []
 sent_by (IsBad d lba) = []
 sent_by (IsRingSize d pages) = []
 sent_by (IsWindow d size) = []
-sent_by (IsAsk d ask) = data_of ask ∷ []
+sent_by (IsAsk d ask) = room_of ask ∷ []
 sent_by (IsRescind d after held) = []
 sent_by (IsShut d) = []
 sent_by (IsModify d vp) = 0 ∷ []
@@ -212,12 +212,12 @@ sent_in (l ∷ lines) = sent_by l.what ++ sent_in lines
 record AskedAt (specs : List DeviceSpec) (part : List Line) (device k n : ℕ) : Type 0 where
   pub ask : Ask
   pub at : slice_get (asks_of device part) k ≡ Some ask
-  pub sent : data_of ask ≡ n
+  pub sent : room_of ask ≡ n
   pub spec : DeviceSpec
   pub offered : slice_get specs device ≡ Some spec
 
 abbrev FineSource : List DeviceSpec → List Line → Source → ℕ → Type 0
-FineSource specs part (Known result) n = result_runs result ≤ 40
+FineSource specs part (Known result) n = result_room result ≤ n
 FineSource specs part (AskedOf device k) n = AskedAt specs part device k n
 
 ended_fine : (specs : List DeviceSpec) (part : List Line) (r s : Bool) (device k n : ℕ) → AskedAt specs part device k n → FineSource specs part (known_or (if r then Some Gone else if s then Some Closed else None) (AskedOf device k)) n
@@ -230,7 +230,7 @@ moved_fine specs part true s version vp = omega arith
 moved_fine specs part false true version vp = omega arith
 moved_fine specs part false false version vp = by_version (answers_modify version) (has_modify version)
   where
-    by_version : (answered known : Bool) → result_runs (if answered then Modified vp true else if known then Modified vp false else Unsupported) ≤ 40
+    by_version : (answered known : Bool) → result_room (if answered then Modified vp true else if known then Modified vp false else Unsupported) ≤ 0
     by_version true known = omega arith
     by_version false true = omega arith
     by_version false false = omega arith
@@ -267,7 +267,7 @@ source_fine specs p before rest l (IsRingSize d pages) what is right = tt
 source_fine specs p before rest l (IsWindow d size) what is right = tt
 source_fine specs p before rest l (IsAsk d ask) what is right =
     let found = offered_spec specs d (kind_asked ask) right in
-    (ended_fine specs p.part (is_rescinded d p.earlier) (is_shut d p.earlier) d (length (asks_of d before)) (data_of ask) (record { ask = ask; at = ask_there p.part before rest l d ask is what; sent = refl; spec = found.0; offered = found.1 }), tt)
+    (ended_fine specs p.part (is_rescinded d p.earlier) (is_shut d p.earlier) d (length (asks_of d before)) (room_of ask) (record { ask = ask; at = ask_there p.part before rest l d ask is what; sent = refl; spec = found.0; offered = found.1 }), tt)
 source_fine specs p before rest l (IsRescind d after held) what is right = tt
 source_fine specs p before rest l (IsShut d) what is right = tt
 source_fine specs p before rest l (IsModify d vp) what is right = (moved_fine specs p.part (is_rescinded d p.earlier) (is_shut d p.earlier) p.version vp, tt)
@@ -290,7 +290,7 @@ module _ (p : Phase) (next : ℕ) (specs : List DeviceSpec) (channels : List Car
   source_few (Known result) n r fine is = let same : r ≡ result = cc in subst (FewFor n) (sym same) (omega (arith, fine))
   source_few (AskedOf device k) n r fine is =
       let there = nth_few p next specs channels device fine.spec k fine.ask opened are each few fine.offered fine.at in
-      let here : FewFor (data_of fine.ask) r = subst (IfThere (FewFor (data_of fine.ask))) (sym is) there in
+      let here : FewFor (room_of fine.ask) r = subst (IfThere (FewFor (room_of fine.ask))) (sym is) there in
       subst (λ m. FewFor m r) fine.sent here
 
   told_few : (told : List LineResult) (ss : List Source) (sent : List ℕ) → map (λ r. Some r) told ≡ map (outcome_at p channels) ss → Each2 (FineSource specs p.part) ss sent → FewTold told sent
@@ -329,7 +329,7 @@ grows_long device channels [] (a ∷ after) each = absurd each
 grows_long device channels (b ∷ before) [] each = absurd each
 grows_long device channels (b ∷ before) (a ∷ after) each = ap suc (grows_long (device + 1) channels before after each.1)
 
--- what all phases sent
+-- what all phases have
 abbrev sent_all : List (List Line) → List ℕ
 sent_all [] = []
 sent_all (part ∷ parts) = sent_in part ++ sent_all parts
@@ -353,13 +353,13 @@ all_append : (xs ys : List ℕ) → in_all (xs ++ ys) ≡ in_all xs + in_all ys
 all_append [] ys = omega arith
 all_append (x ∷ xs) ys = omega (arith, all_append xs ys)
 
-sum_few : (results : List LineResult) (sent : List ℕ) → FewTold results sent → runs_back results ≤ 40 * length results + in_all sent
+sum_few : (results : List LineResult) (sent : List ℕ) → FewTold results sent → room_back results ≤ in_all sent
 sum_few [] [] few = omega arith
 sum_few [] (n ∷ sent) few = absurd few
 sum_few (r ∷ results) [] few = absurd few
-sum_few (r ∷ results) (n ∷ sent) few = omega (arith, sum_by-cons result_runs r results, few.0, sum_few results sent few.1)
+sum_few (r ∷ results) (n ∷ sent) few = omega (arith, sum_by-cons result_room r results, few.0, sum_few results sent few.1)
 
-line_sent : (w : What) → in_all (sent_by w) ≡ data_in w
+line_sent : (w : What) → in_all (sent_by w) ≡ room_in w
 line_sent (IsContact guest host) = refl
 line_sent (IsOffer name spec) = refl
 line_sent (IsBad d lba) = refl
@@ -373,23 +373,23 @@ line_sent IsPhase = refl
 
 -- the phases' lines are the script's
 
-onto_sent : (l : Line) (ps : List (List Line)) → in_all (sent_all (onto_first l ps)) ≡ data_in l.what + in_all (sent_all ps)
+onto_sent : (l : Line) (ps : List (List Line)) → in_all (sent_all (onto_first l ps)) ≡ room_in l.what + in_all (sent_all ps)
 onto_sent l [] = omega (arith, all_append (sent_by l.what ++ []) [], all_append (sent_by l.what) [], line_sent l.what)
 onto_sent l (p ∷ ps) = omega (arith, all_append (sent_by l.what ++ sent_in p) (sent_all ps), all_append (sent_by l.what) (sent_in p), all_append (sent_in p) (sent_all ps), line_sent l.what)
 
-split_sent : (l : Line) (w : What) → l.what ≡ w → (ps : List (List Line)) → in_all (sent_all (cond (is_phase w) ([] ∷ ps) (onto_first l ps))) ≡ data_in w + in_all (sent_all ps)
-split_sent l (IsContact guest host) is ps = onto_sent l ps ∙ ap (λ w. data_in w + in_all (sent_all ps)) is
-split_sent l (IsOffer name spec) is ps = onto_sent l ps ∙ ap (λ w. data_in w + in_all (sent_all ps)) is
-split_sent l (IsBad d lba) is ps = onto_sent l ps ∙ ap (λ w. data_in w + in_all (sent_all ps)) is
-split_sent l (IsRingSize d pages) is ps = onto_sent l ps ∙ ap (λ w. data_in w + in_all (sent_all ps)) is
-split_sent l (IsWindow d size) is ps = onto_sent l ps ∙ ap (λ w. data_in w + in_all (sent_all ps)) is
-split_sent l (IsAsk d ask) is ps = onto_sent l ps ∙ ap (λ w. data_in w + in_all (sent_all ps)) is
-split_sent l (IsRescind d after held) is ps = onto_sent l ps ∙ ap (λ w. data_in w + in_all (sent_all ps)) is
-split_sent l (IsShut d) is ps = onto_sent l ps ∙ ap (λ w. data_in w + in_all (sent_all ps)) is
-split_sent l (IsModify d vp) is ps = onto_sent l ps ∙ ap (λ w. data_in w + in_all (sent_all ps)) is
+split_sent : (l : Line) (w : What) → l.what ≡ w → (ps : List (List Line)) → in_all (sent_all (cond (is_phase w) ([] ∷ ps) (onto_first l ps))) ≡ room_in w + in_all (sent_all ps)
+split_sent l (IsContact guest host) is ps = onto_sent l ps ∙ ap (λ w. room_in w + in_all (sent_all ps)) is
+split_sent l (IsOffer name spec) is ps = onto_sent l ps ∙ ap (λ w. room_in w + in_all (sent_all ps)) is
+split_sent l (IsBad d lba) is ps = onto_sent l ps ∙ ap (λ w. room_in w + in_all (sent_all ps)) is
+split_sent l (IsRingSize d pages) is ps = onto_sent l ps ∙ ap (λ w. room_in w + in_all (sent_all ps)) is
+split_sent l (IsWindow d size) is ps = onto_sent l ps ∙ ap (λ w. room_in w + in_all (sent_all ps)) is
+split_sent l (IsAsk d ask) is ps = onto_sent l ps ∙ ap (λ w. room_in w + in_all (sent_all ps)) is
+split_sent l (IsRescind d after held) is ps = onto_sent l ps ∙ ap (λ w. room_in w + in_all (sent_all ps)) is
+split_sent l (IsShut d) is ps = onto_sent l ps ∙ ap (λ w. room_in w + in_all (sent_all ps)) is
+split_sent l (IsModify d vp) is ps = onto_sent l ps ∙ ap (λ w. room_in w + in_all (sent_all ps)) is
 split_sent l IsPhase is ps = omega arith
 
-parts_sent : (lines : List Line) → in_all (sent_all (slice_split ends_part lines)) ≡ data_by lines
+parts_sent : (lines : List Line) → in_all (sent_all (slice_split ends_part lines)) ≡ room_by lines
 parts_sent [] = refl
 parts_sent (l ∷ lines) = omega (arith, split_sent l l.what refl (slice_split ends_part lines), parts_sent lines)
 
@@ -425,6 +425,27 @@ few_runs_back_lem bytes lines settled histories results reads script run =
     let told = (run_few (agreed_in lines) specs 0 (length specs + 1) [] (parts lines) _ settled _ results (length-map specs (λ k. [])) right run.phases_run few).1 in
     omega (arith, sum_few results (sent_all (parts lines)) told, parts_sent lines)
 
+-- a key-value line has the most room of all, beside the bytes that messages sent
+
+room_most : (w : What) → room_in w ≤ 1278 + 24 * data_in w
+room_most (IsContact guest host) = omega arith
+room_most (IsOffer name spec) = omega arith
+room_most (IsBad d lba) = omega arith
+room_most (IsRingSize d pages) = omega arith
+room_most (IsWindow d size) = omega arith
+room_most (IsAsk d (AskIc ask)) = omega arith
+room_most (IsAsk d (AskDisk request)) = omega arith
+room_most (IsAsk d (AskNet message)) = omega arith
+room_most (IsAsk d (AskKvp request)) = omega arith
+room_most (IsRescind d after held) = omega arith
+room_most (IsShut d) = omega arith
+room_most (IsModify d vp) = omega arith
+room_most IsPhase = omega arith
+
+all_room : (lines : List Line) → room_by lines ≤ 1278 * length lines + 24 * data_by lines
+all_room [] = omega arith
+all_room (l ∷ lines) = omega (arith, room_most l.what, all_room lines)
+
 pub report_fits_lem : ReportFits
 report_fits_lem bytes lines settled histories results reads short script run =
-    omega (arith, few_runs_back_lem bytes lines settled histories results reads script run, one_each_lem lines settled histories results run, count_by-le-length prints lines, script.short, data_stands bytes lines reads, short)
+    omega (arith, few_runs_back_lem bytes lines settled histories results reads script run, all_room lines, script.short, data_stands bytes lines reads, short)

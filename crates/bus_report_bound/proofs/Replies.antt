@@ -1,5 +1,5 @@
--- The replies of devices have few runs.
-use Rattle.std.proofs.Common.{◌≡◌, ℕ, ◌+◌, ◌-◌, ◌≤◌, Bool, true, false, ◌&&◌, List, [], ◌∷◌, ◌++◌, length, length-append, length-drop, refl, sym, subst, arith, Option, Some, None}
+-- The replies of devices have the room of what they were asked.
+use Rattle.std.proofs.Common.{◌≡◌, ℕ, ◌+◌, ◌-◌, ◌*◌, ◌≤◌, Bool, true, false, ◌&&◌, List, [], ◌∷◌, ◌++◌, length, length-append, length-drop, refl, sym, subst, arith, Option, Some, None}
 use Rattle.std.specs.Prelude.{map, drop, nat_le, slice_range, Result, Ok, Err, if◌then◌else◌}
 use Rattle.std.specs.List.{AllByRecursion}
 use Rattle.std.proofs.lemmas.List.{length-take}
@@ -15,6 +15,8 @@ use Rattle.scsi_disk.specs.declared.reply.DiskReply.{DiskReply}
 use Rattle.scsi_disk.proofs.OneByteLaws.{IsOneByte, new_plain}
 use Rattle.util_ic.specs.declared.ic.IcAsk.{IcAsk}
 use Rattle.util_ic.specs.declared.ic.IcAnswer.{IcAnswer}
+use Rattle.kvp_ic.specs.declared.message.Kvp.{Kvp as Message}
+use Rattle.kvp_ic.specs.declared.message.KvpReply.{KvpReply}
 use Rattle.rndis_msg.specs.declared.rndis.Rndis.{Rndis}
 use Rattle.rndis_msg.specs.declared.rndis.Rndis.TheVariants.{Packet, Initialize, Halt, Query, Set, SetComplete, Reset, ResetComplete, Keepalive, KeepaliveComplete}
 use Rattle.rndis_msg.specs.declared.fault.RndisFault.{RndisFault}
@@ -27,16 +29,16 @@ use Rattle.net_dev.specs.declared.station.Station.{Station}
 use Rattle.net_dev.specs.Station.{is_addressed, turned, frame_back, value_bytes, query_complete, initialize_reply, set_status, station_reply, station_after}
 use Rattle.script_lines.specs.declared.line.Line.{Line}
 use Rattle.script_lines.specs.declared.line.DeviceSpec.{DeviceSpec}
-use Rattle.script_lines.specs.declared.line.DeviceSpec.TheVariants.{Beat, Down, Disk, Net}
+use Rattle.script_lines.specs.declared.line.DeviceSpec.TheVariants.{Beat, Down, Disk, Net, Kvp}
 use Rattle.script_lines.specs.Parts.{bads_of}
 use Rattle.script_lines.specs.WellFormed.{IsDevice}
 use Rattle.script_lines.proofs.Plain.{PlainAsk}
 use Rattle.bus_script.specs.Report.{disk_runs, net_runs}
 use Rattle.device_kinds.specs.Served.{message_asked}
-use Rattle.device_kinds.specs.Logs.{Recorded, ic_calls, disk_calls, net_calls, log_by, log_of, new_station, IsHistory, EachHistory}
+use Rattle.device_kinds.specs.Logs.{Recorded, ic_calls, disk_calls, net_calls, kvp_calls, log_by, log_of, new_station, IsHistory, EachHistory}
 use Rattle.device_kinds.specs.declared.history.DeviceHistory.{DeviceHistory}
-use Rattle.device_kinds.specs.declared.history.DeviceHistory.TheVariants.{Beat as BeatHistory, Down as DownHistory, Disk as DiskHistory, Net as NetHistory}
-use Rattle.bus_report_bound.specs.Laws.{data_of}
+use Rattle.device_kinds.specs.declared.history.DeviceHistory.TheVariants.{Beat as BeatHistory, Down as DownHistory, Disk as DiskHistory, Net as NetHistory, Kvp as KvpHistory}
+use Rattle.bus_report_bound.specs.Laws.{data_of, room_of}
 use Rattle.bus_report_bound.proofs.Along.{FewReply}
 use Rattle.bus_report_bound.proofs.OneByte.{entries_few}
 use Rattle.bus_report_bound.proofs.RunCounts.{runs_most}
@@ -45,7 +47,7 @@ use Rattle.bus_report_bound.proofs.RunCounts.{runs_most}
 abbrev pub PlainLog : List Recorded → Type 0
 PlainLog log = AllByRecursion (λ e. PlainAsk e.ask) log
 
--- replies of few runs
+-- replies that have the room of their requests
 abbrev pub FewLog : List Recorded → Type 0
 FewLog log = AllByRecursion (λ e. FewReply e.ask e.reply) log
 
@@ -117,30 +119,28 @@ station_few s (Ok Reset) has = few_of_body (ResetComplete 0 0) 40 (omega arith)
 station_few s (Ok (Keepalive request_id)) has = few_of_body (KeepaliveComplete request_id 0) 40 (omega arith)
 station_few s (Ok m) has = omega arith
 
+net_room : (q : Result Rndis RndisFault) (back : Option Rndis) → net_runs back ≤ 40 + data_of (message_asked q) → 24 * net_runs back ≤ room_of (message_asked q)
+net_room (Ok message) back few = omega (arith, few)
+net_room (Err fault) back few = omega (arith, few)
+
 -- its addresses stay
 net_few : {S : Type 0} (s : Station) (es : List (Entry S (Result Rndis RndisFault) NetReply)) → HasAddresses s → IsLegal station_after station_reply s es → FewLog (log_by net_calls es)
 net_few s [] has log = tt
 net_few s (e ∷ es) has log =
-    (subst (λ (r : NetReply). net_runs r.back ≤ 40 + data_of (message_asked e.request)) (sym log.0) (station_few s e.request has), net_few (station_after s e.request) es (record { mac = has.mac; station = has.station }) log.1)
+    (net_room e.request e.reply.back (subst (λ (r : NetReply). net_runs r.back ≤ 40 + data_of (message_asked e.request)) (sym log.0) (station_few s e.request has)), net_few (station_after s e.request) es (record { mac = has.mac; station = has.station }) log.1)
+
+kvp_few : {S : Type 0} (es : List (Entry S Message KvpReply)) → FewLog (log_by kvp_calls es)
+kvp_few [] = tt
+kvp_few (e ∷ es) = (omega arith, kvp_few es)
 
 history_few : (kind : DeviceSpec) (bad : List ℕ) (h : DeviceHistory) → IsDevice kind → IsHistory kind bad h → PlainLog (log_of h) → FewLog (log_of h)
 history_few Beat bad (BeatHistory h) device is plain = ic_few (entries_of h)
-history_few Beat bad (DownHistory h) device is plain = absurd is
-history_few Beat bad (DiskHistory h) device is plain = absurd is
-history_few Beat bad (NetHistory h) device is plain = absurd is
-history_few Down bad (BeatHistory h) device is plain = absurd is
 history_few Down bad (DownHistory h) device is plain = ic_few (entries_of h)
-history_few Down bad (DiskHistory h) device is plain = absurd is
-history_few Down bad (NetHistory h) device is plain = absurd is
-history_few (Disk blocks subs) bad (BeatHistory h) device is plain = absurd is
-history_few (Disk blocks subs) bad (DownHistory h) device is plain = absurd is
 history_few (Disk blocks subs) bad (DiskHistory h) device is plain =
     disk_few (entries_of h) (entries_few (new_disk blocks bad) (entries_of h) (new_plain blocks bad) (disk_ones (entries_of h) plain) is)
-history_few (Disk blocks subs) bad (NetHistory h) device is plain = absurd is
-history_few (Net mac station) bad (BeatHistory h) device is plain = absurd is
-history_few (Net mac station) bad (DownHistory h) device is plain = absurd is
-history_few (Net mac station) bad (DiskHistory h) device is plain = absurd is
 history_few (Net mac station) bad (NetHistory h) device is plain = net_few (new_station mac station) (entries_of h) (record { mac = device.0; station = device.1 }) is
+history_few Kvp bad (KvpHistory h) device is plain = kvp_few (entries_of h)
+history_few _ bad _ device is plain = absurd is
 
 pub histories_few : (lines : List Line) (device : ℕ) (kinds : List DeviceSpec) (histories : List DeviceHistory) → AllByRecursion IsDevice kinds → EachHistory lines device kinds histories → AllByRecursion PlainLog (map log_of histories)
     → AllByRecursion FewLog (map log_of histories)

@@ -17,7 +17,7 @@ use Rattle.bus_model.proofs.Lists.{IfThere, at_get, each_filter}
 use Rattle.bus_plan.specs.Plans.{opening_at}
 use Rattle.bus_plan.proofs.Devices.{of_device, channels_here}
 use Rattle.bus_plan.proofs.Ordering.{all_channels}
-use Rattle.bus_report_bound.specs.Laws.{data_of}
+use Rattle.bus_report_bound.specs.Laws.{room_of}
 use Rattle.bus_report_bound.proofs.Along.{FewServed, FewFor, outcome_few}
 
 -- the channel at a place of a device's channels has that number
@@ -76,7 +76,7 @@ of_one P f (c ∷ channels) (suc j) i each = of_one P f channels j i (λ d at. e
 -- the outcome of a device's request with this number brings back no more than the reply to it
 module _ (p : Phase) (channels : List Carried) (device : ℕ) (spec : DeviceSpec) (k : ℕ) (ask : Ask) (each : AllByRecursion (IsCarried p) channels) (few : AllByRecursion (λ c. FewServed c.served) channels) (at : slice_get (asks_of device p.part) k ≡ Some ask) where
   of_channel : (next many : ℕ) → many ≡ channels_of spec → map (λ c. c.opening) (seats_of device channels) ≡ channels_from device spec next → (c : Carried) → slice_get (seats_of device channels) (k % many) ≡ Some c
-      → IfThere (FewFor (data_of ask)) (slice_get (outcomes_of (order_of p c.opening) c.served) (k / many))
+      → IfThere (FewFor (room_of ask)) (slice_get (outcomes_of (order_of p c.opening) c.served) (k / many))
   of_channel next many count are c here =
       let is : IsNumber device spec (k % many) c.opening = channel_at device spec next (k % many) c.opening (sym (ap (λ l. slice_get l (k % many)) are) ∙ carried_at (seats_of device channels) (k % many) c here) in
       let order = order_of p c.opening in
@@ -90,20 +90,20 @@ module _ (p : Phase) (channels : List Carried) (device : ℕ) (spec : DeviceSpec
       let mine : FewServed c.served = subst (IfThere (λ (c : Carried). FewServed c.served)) here (at_get (λ (c : Carried). FewServed c.served) (seats_of device channels) (k % many) (each_filter (λ (c : Carried). FewServed c.served) (λ c. c.opening.device == device) channels few)) in
       outcome_few order.stop (length order.asks) _ (k / many) _ order.asks c.served ask carried.carried.serves mine asked
 
-  told_few : (next : ℕ) (b : Bool) → map (λ c. c.opening) (seats_of device channels) ≡ (if b then channels_from device spec next else []) → IfThere (FewFor (data_of ask)) (nth_of (told_by p channels device) k)
+  told_few : (next : ℕ) (b : Bool) → map (λ c. c.opening) (seats_of device channels) ≡ (if b then channels_from device spec next else []) → IfThere (FewFor (room_of ask)) (nth_of (told_by p channels device) k)
   told_few next true are =
       let count : length (told_by p channels device) ≡ channels_of spec =
       length-map (seats_of device channels) (λ (c : Carried). outcomes_of (order_of p c.opening) c.served) ∙ (sym (length-map (seats_of device channels) (λ (c : Carried). c.opening)) ∙ (ap length are ∙ channels_long device spec next)) in
-      of_one (FewFor (data_of ask)) (λ (c : Carried). outcomes_of (order_of p c.opening) c.served) (seats_of device channels) (k % length (told_by p channels device)) (k / length (told_by p channels device))
+      of_one (FewFor (room_of ask)) (λ (c : Carried). outcomes_of (order_of p c.opening) c.served) (seats_of device channels) (k % length (told_by p channels device)) (k / length (told_by p channels device))
       (of_channel next (length (told_by p channels device)) count are)
   told_few next false are = none (seats_of device channels) are
     where
-      none : (seats : List Carried) → map (λ c. c.opening) seats ≡ [] → IfThere (FewFor (data_of ask)) (nth_of (map (λ (c : Carried). outcomes_of (order_of p c.opening) c.served) seats) k)
+      none : (seats : List Carried) → map (λ c. c.opening) seats ≡ [] → IfThere (FewFor (room_of ask)) (nth_of (map (λ (c : Carried). outcomes_of (order_of p c.opening) c.served) seats) k)
       none [] is = tt
       none (c ∷ seats) is = absurd (cc)
 
 pub nth_few : (p : Phase) (next : ℕ) (specs : List DeviceSpec) (channels : List Carried) (device : ℕ) (spec : DeviceSpec) (k : ℕ) (ask : Ask) → p.opened ≡ opened_from (is_opened p.earlier p.part) 0 next specs → map (λ c. c.opening) channels ≡ by_relid p.opened
-    → AllByRecursion (IsCarried p) channels → AllByRecursion (λ c. FewServed c.served) channels → slice_get specs device ≡ Some spec → slice_get (asks_of device p.part) k ≡ Some ask → IfThere (FewFor (data_of ask)) (nth_of (told_by p channels device) k)
+    → AllByRecursion (IsCarried p) channels → AllByRecursion (λ c. FewServed c.served) channels → slice_get specs device ≡ Some spec → slice_get (asks_of device p.part) k ≡ Some ask → IfThere (FewFor (room_of ask)) (nth_of (told_by p channels device) k)
 nth_few p next specs channels device spec k ask opened are each few offered at =
     let found = channels_here (is_opened p.earlier p.part) device next specs spec offered in
     let seats : map (λ c. c.opening) (seats_of device channels) ≡ (if is_opened p.earlier p.part device then channels_from device spec found.0 else []) =

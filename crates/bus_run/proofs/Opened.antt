@@ -11,7 +11,7 @@ use Rattle.std.proofs.lemmas.Bool.Decides.{nat_tests}
 use Rattle.bus_model.proofs.Lists.{each_append}
 use Rattle.chan_state.specs.declared.stop.Stop.{Stop}
 use Rattle.contact.specs.declared.kind.DeviceKind.{DeviceKind}
-use Rattle.contact.specs.declared.kind.DeviceKind.TheVariants.{Beat as KindBeat, Down as KindDown, Disk as KindDisk, Net as KindNet}
+use Rattle.contact.specs.declared.kind.DeviceKind.TheVariants.{Beat as KindBeat, Down as KindDown, Disk as KindDisk, Net as KindNet, Kvp as KindKvp}
 use Rattle.script_lines.specs.Parts.{kind_of}
 use Rattle.script_phases.specs.Openings.{subs_of as subs_beside}
 use Rattle.hist_lock.specs.Seat.{Lock, Seat, seats_from}
@@ -19,15 +19,15 @@ use Rattle.bus_threads.specs.Pairs.{Pairing}
 use Rattle.worker_pair.specs.Plans.{stop_of}
 use Rattle.device_any.specs.Seats.{kind_at, served_at, left_at}
 use Rattle.device_any.specs.declared.device_seat.DeviceSeat.{DeviceSeat}
-use Rattle.bus_plan.specs.Heard.{stop_told}
+use Rattle.phase_plan.specs.Told.{stop_told}
 use Rattle.bus_plan.specs.declared.opening.ChannelOrder.{ChannelOrder}
 use Rattle.bus_run.specs.Devices.{IsReady, Suits, box_at, gone}
-use Rattle.device_any.specs.Boxes.{AreSeatsBy, AreSeatsFor, EachWith, Working, beats, disks, downs, kind_in, nets, seats_in, spec_of, subs_in}
+use Rattle.device_any.specs.Boxes.{AreSeatsBy, AreSeatsFor, EachWith, Working, beats, disks, downs, kind_in, nets, pairs, seats_in, spec_of, subs_in}
 use Rattle.device_any.specs.declared.device_box.DeviceBox.{DeviceBox}
-use Rattle.device_any.specs.declared.device_box.DeviceBox.TheVariants.{Beat as BeatBox, Down as DownBox, Disk as DiskBox, Net as NetBox}
+use Rattle.device_any.specs.declared.device_box.DeviceBox.TheVariants.{Beat as BeatBox, Down as DownBox, Disk as DiskBox, Net as NetBox, Kvp as KvpBox}
 use Rattle.device_any.specs.declared.machine_box.MachineBox.{MachineBox}
 use Rattle.device_any.specs.declared.machine_box.MachineBox.TheVariants.{Whole}
-use Rattle.device_kinds.specs.Logs.{ic_calls, disk_calls, net_calls, served_by}
+use Rattle.device_kinds.specs.Logs.{ic_calls, disk_calls, net_calls, kvp_calls, served_by}
 use Rattle.bus_run.specs.Opening.{IsAway, IsStill, quotas_of, orders_of, order_with, order_at, CanOpen, CanOpenAll, AreAway, IsOpenedWith, Given, seats_given, OpensAt, OpenedSoFar, AllOpened}
 use Rattle.bus_run.specs.Settings.{unset}
 use Rattle.bus_run.specs.declared.settings.Settings.{Settings}
@@ -105,6 +105,7 @@ left_new (BeatBox own) quotas seats new = left_by beats KindBeat (λ s. refl) (�
 left_new (DownBox own) quotas seats new = left_by downs KindDown (λ s. refl) (λ s none. ap (served_by ic_calls) none) (λ s. refl) own quotas seats new
 left_new (DiskBox subs own) quotas seats new = left_by disks KindDisk (λ s. refl) (λ s none. ap (served_by disk_calls) none) (λ s. refl) own quotas seats new
 left_new (NetBox own) quotas seats new = left_by nets KindNet (λ s. refl) (λ s none. ap (served_by net_calls) none) (λ s. refl) own quotas seats new
+left_new (KvpBox own) quotas seats new = left_by pairs KindKvp (λ s. refl) (λ s none. ap (served_by kvp_calls) none) (λ s. refl) own quotas seats new
 
 away_left : (old held : DeviceBox) (quotas : List ℕ) → IsAway old quotas held → AreLeft (kind_in held) quotas (seats_in held)
 away_left old held [] away = subst (AreLeft (kind_in held) []) (sym away.2) tt

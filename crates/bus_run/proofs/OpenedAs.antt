@@ -7,13 +7,13 @@ use Rattle.std.proofs.lemmas.List.{append-nil, map-append, length-drop}
 use Rattle.std.proofs.lemmas.Grind.{flat_map-append}
 use Rattle.script_lines.specs.declared.line.Line.{Line}
 use Rattle.script_lines.specs.declared.line.DeviceSpec.{DeviceSpec}
-use Rattle.script_lines.specs.declared.line.DeviceSpec.TheVariants.{Beat, Down, Disk, Net}
+use Rattle.script_lines.specs.declared.line.DeviceSpec.TheVariants.{Beat, Down, Disk, Net, Kvp}
 use Rattle.script_lines.specs.Parts.{kind_of}
 use Rattle.script_phases.specs.Openings.{Opening, Phase, by_relid}
 use Rattle.control_model.specs.Plan.{phase_of}
 use Rattle.control_model.specs.declared.opening.Opening.{Opening as PlanOpening}
 use Rattle.control_model.specs.Openings.{has_buffers, plan_of}
-use Rattle.control_run.specs.Told.{IsSaidToStart}
+use Rattle.control_path.specs.Told.{IsSaidToStart}
 use Rattle.bus_model.specs.Orders.{order_of}
 use Rattle.bus_model.specs.declared.channel_run.ChannelRun.{ChannelRun}
 use Rattle.bus_plan.specs.Plans.{EachOf, EachOrdered}
@@ -70,6 +70,7 @@ as_planned Beat posted relid o planned = refl
 as_planned Down posted relid o planned = refl
 as_planned (Disk blocks subs) posted relid o planned = refl
 as_planned (Net mac station) posted relid o planned = planned refl
+as_planned Kvp posted relid o planned = refl
 
 -- and that is what the lines set, and what the control path's plan has
 opened_as : (lines : List Line) (devices : ℕ) (posted : List Msg) (settings : List Settings) (p : Phase) (os : List Opening) (pairs : List Pairing) → SettingsOf lines devices settings → TellsPlanned (plan_of lines) p.number posted

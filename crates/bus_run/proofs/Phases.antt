@@ -15,14 +15,14 @@ use Rattle.script_lines.specs.Parts.{parts, ends_part, offered, offered_by, bads
 use Rattle.script_lines.specs.WellFormed.{AllRight, AllGo, IsRight, IsScript}
 use Rattle.script_lines.specs.declared.line.What.{What}
 use Rattle.script_lines.specs.declared.line.What.TheVariants.{Contact as IsContact, Offer as IsOffer, Bad as IsBad, RingSize as IsRingSize, Window as IsWindow, Ask as IsAsk, Rescind as IsRescind, Shut as IsShut, Modify as IsModify, Phase as IsPhase}
-use Rattle.script_lines.specs.declared.line.DeviceSpec.TheVariants.{Beat as IsBeat, Down as IsDown, Disk as IsDisk, Net as IsNet}
+use Rattle.script_lines.specs.declared.line.DeviceSpec.TheVariants.{Beat as IsBeat, Down as IsDown, Disk as IsDisk, Net as IsNet, Kvp as IsKvp}
 use Rattle.bus_model.proofs.Lists.{each_append}
 use Rattle.contact.specs.declared.version.Version.{Version}
 use Rattle.script_phases.specs.Agreed.{agreed_in}
 use Rattle.script_phases.specs.Openings.{Phase, by_relid, subs_of, is_opened, opened_from, others, phases_from, phases}
 use Rattle.control_model.specs.Plan.{phase_of}
 use Rattle.control_model.specs.Openings.{plan_of}
-use Rattle.control_run.specs.Told.{IsSaidToStart}
+use Rattle.control_path.specs.Told.{IsSaidToStart}
 use Rattle.device_kinds.specs.Logs.{EachHistory, IsHistory, log_of}
 use Rattle.device_kinds.specs.Logs.{Recorded}
 use Rattle.bus_model.specs.Run.{PhaseRuns, RunsOf, over, then_on, IsBusRun}
@@ -276,6 +276,7 @@ few_offered kinds (IsOffer name IsBeat) right = (omega arith, tt)
 few_offered kinds (IsOffer name IsDown) right = (omega arith, tt)
 few_offered kinds (IsOffer name (IsDisk blocks subs)) right = (right.2, tt)
 few_offered kinds (IsOffer name (IsNet mac station)) right = (omega arith, tt)
+few_offered kinds (IsOffer name IsKvp) right = (omega arith, tt)
 few_offered kinds (IsBad d lba) right = tt
 few_offered kinds (IsRingSize d pages) right = tt
 few_offered kinds (IsWindow d size) right = tt

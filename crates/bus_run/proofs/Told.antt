@@ -5,15 +5,15 @@ use Rattle.vmbus_msg.specs.declared.msg.Msg.{Msg}
 use Rattle.script_lines.specs.declared.line.Line.{Line}
 use Rattle.script_lines.specs.Parts.{ring_pages_of}
 use Rattle.script_phases.specs.Openings.{Opening, Phase, by_relid, firsts, is_first, others, phases}
-use Rattle.device_formats.specs.declared.buffer_lists.BufferLists.{BufferLists}
+use Rattle.device_wire.specs.declared.buffer_lists.BufferLists.{BufferLists}
 use Rattle.control_model.specs.declared.planning.Fate.{Fate}
 use Rattle.control_model.specs.declared.opening.Opening.{Opening as PlanOpening}
 use Rattle.control_model.specs.Plan.{BusPlan, first_gpadl, opening_at, phase_of, IsPlan}
 use Rattle.control_model.specs.Openings.{fate_of, has_buffers, lists_for, lists_in as count_lists, numbered, openings_from, pages_for, pages_in, plan_of, vp_at}
 use Rattle.control_model.specs.GuestAt.{GuestAt}
-use Rattle.control_run.specs.declared.path.ControlPath.{ControlPath}
-use Rattle.control_run.specs.Told.{IsSaidToStart}
-use Rattle.control_run.proofs.ToldLaws.{start_law, told_law}
+use Rattle.control_path.specs.declared.path.ControlPath.{ControlPath}
+use Rattle.control_path.specs.Told.{IsSaidToStart}
+use Rattle.control_path.proofs.ToldLaws.{start_law, told_law}
 use Rattle.bus_model.proofs.Lists.{each_append, each_filter}
 use Rattle.bus_run.specs.Opened.{IsPlanned}
 use Rattle.bus_run.specs.Opening.{lists_in, planned_lists}

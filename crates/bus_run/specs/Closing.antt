@@ -10,7 +10,7 @@ use Rattle.device_any.specs.declared.device_seat.DeviceSeat.{DeviceSeat}
 use Rattle.bus_threads.specs.Pairs.{RanPair}
 use Rattle.bus_threads.specs.declared.pair.PairDone.{PairDone}
 use Rattle.ring_pair_laws.specs.Lists.{Lists}
-use Rattle.bus_plan.specs.declared.opening.Opening.{Opening as Place}
+use Rattle.phase_plan.specs.declared.opening.Opening.{Opening as Place}
 use Rattle.bus_run.specs.Devices.{box_at}
 use Rattle.device_any.specs.Boxes.{ComesBack, EachWith, GoesOn, kind_in, seats_in}
 use Rattle.device_any.specs.declared.device_box.DeviceBox.{DeviceBox}

@@ -7,7 +7,7 @@ use Rattle.script_lines.specs.Parts.{kind_of}
 use Rattle.control_model.specs.declared.opening.Opening.{Opening as PlanOpening}
 use Rattle.control_model.specs.Plan.{phase_of}
 use Rattle.control_model.specs.Openings.{has_buffers, plan_of}
-use Rattle.control_run.specs.Told.{IsSaidToStart}
+use Rattle.control_path.specs.Told.{IsSaidToStart}
 use Rattle.script_phases.specs.Openings.{Opening, Phase, by_relid}
 use Rattle.bus_model.specs.Orders.{order_of}
 use Rattle.bus_model.specs.declared.channel_run.ChannelRun.{ChannelRun}

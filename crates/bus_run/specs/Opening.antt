@@ -2,14 +2,14 @@
 use Rattle.std.specs.Prelude.{ℕ, ◌≡◌, ◌*◌, ◌<◌, ◌≤◌, ◌==◌, List, [], ◌∷◌, ◌++◌, length, map, filter, sum, slice_index_or, Some, None}
 use Rattle.std.specs.List.{AllByRecursion}
 use Rattle.contact.specs.declared.kind.DeviceKind.{DeviceKind}
-use Rattle.contact.specs.declared.kind.DeviceKind.TheVariants.{Beat, Down, Disk, Net}
+use Rattle.contact.specs.declared.kind.DeviceKind.TheVariants.{Beat, Down, Disk, Net, Kvp}
 use Rattle.worker_pair.specs.Plans.{stop_of}
 use Rattle.device_any.specs.Seats.{kind_at}
 use Rattle.device_any.specs.declared.device_seat.DeviceSeat.{DeviceSeat}
 use Rattle.bus_model.specs.Orders.{Order}
 use Rattle.bus_threads.specs.Pairs.{Pairing, AreOnChannel, Opens, lists_of}
-use Rattle.device_formats.specs.declared.buffer_lists.BufferLists.{BufferLists}
-use Rattle.device_formats.specs.Wants.{no_lists}
+use Rattle.device_wire.specs.declared.buffer_lists.BufferLists.{BufferLists}
+use Rattle.device_kinds.specs.Formats.{no_lists}
 use Rattle.control_model.specs.declared.opening.Opening.{Opening as PlanOpening}
 use Rattle.control_model.specs.declared.buffer.Buffer.TheVariants.{Receive, Send}
 use Rattle.control_model.specs.Plan.{buffer_list}
@@ -80,6 +80,7 @@ lists_on Beat posted relid = no_lists
 lists_on Down posted relid = no_lists
 lists_on Disk posted relid = no_lists
 lists_on Net posted relid = lists_in posted relid
+lists_on Kvp posted relid = no_lists
 
 -- the page lists that a plan has for a channel's buffers
 abbrev pub planned_lists : PlanOpening → BufferLists
@@ -91,6 +92,7 @@ planned_on Beat o = no_lists
 planned_on Down o = no_lists
 planned_on Disk o = no_lists
 planned_on Net o = planned_lists o
+planned_on Kvp o = no_lists
 
 -- a channel was opened as the settings say and as was ordered, with this seat. What a network's guest tells of its buffers are the page lists that stand in what the guest's control posted, and on any other channel it tells none
 pub record IsOpenedWith (posted : List Msg) (settings : Settings) (relid : ℕ) (order : Order) (seat : DeviceSeat) (pair : Pairing) : Type 0 where

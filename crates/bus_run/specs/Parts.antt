@@ -5,8 +5,8 @@ use Rattle.script_lines.specs.declared.line.Line.{Line}
 use Rattle.control_model.specs.Openings.{plan_of}
 use Rattle.control_model.specs.Guest.{guest_done}
 use Rattle.control_model.specs.Host.{host_done}
-use Rattle.control_run.specs.declared.path.ControlPath.{ControlPath}
-use Rattle.control_run.specs.Path.{Rests}
+use Rattle.control_path.specs.declared.path.ControlPath.{ControlPath}
+use Rattle.control_path.specs.Path.{Rests}
 
 -- The channels of this phase of the script are open, and no message that closes one has been said: both controls are those of the script, they are done with the
 -- start of just this phase, and rest

@@ -13,7 +13,7 @@ use crate::phase_work::PhaseWork;
 use crate::settings::Settings;
 use bus_model::ChannelRun;
 use bus_plan::{ChannelOrder, Outcomes};
-use control_run::ControlPath;
+use control_path::ControlPath;
 use device_any::DeviceBox;
 use io_edge::Gate;
 use std::alloc::{AllocError, Global};

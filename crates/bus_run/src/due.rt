@@ -2,7 +2,8 @@
 ghost use Rattle.std.specs.Prelude.{◌≡◌, map, IfOk};
 ghost use Rattle.bus_run.specs.Due.{due_of};
 
-use bus_plan::{ChannelOrder, Opening};
+use bus_plan::ChannelOrder;
+use phase_plan::Opening;
 use std::alloc::{AllocError, Global};
 
 /// A channel that a phase opens, and how many outcomes are due of it: one for each request that the script orders.

@@ -11,9 +11,9 @@ use crate::settings::Settings;
 use bus_plan::ChannelOrder;
 use bus_threads::{Pair, open_pair};
 use contact::DeviceKind;
-use control_run::ControlPath;
+use control_path::ControlPath;
 use device_any::{DeviceBox, DeviceSeat};
-use device_formats::BufferLists;
+use device_wire::BufferLists;
 use std::alloc::{AllocError, Global};
 
 /// Puts the number of a channel's requests behind others, if it is a channel of this device.
@@ -77,7 +77,8 @@ fn told_lists(kind: DeviceKind, path: &ControlPath, relid: u32) -> BufferLists
     ensures { result ≡ lists_on kind path.now.guest.posted relid }
 {
     match kind {
-        DeviceKind::Beat | DeviceKind::Down | DeviceKind::Disk => BufferLists::NONE,
+        DeviceKind::Beat | DeviceKind::Down | DeviceKind::Disk | DeviceKind::Kvp =>
+            BufferLists::NONE,
         DeviceKind::Net => {
             let (receive, send) = path.last_lists(relid);
             BufferLists { receive, send }

@@ -19,7 +19,7 @@ use bus_model::ChannelRun;
 use bus_plan::{Ending, line_results, mark_ended, plan_part};
 use bus_script::{Line, LineResult};
 use contact::Version;
-use control_run::ControlPath;
+use control_path::ControlPath;
 use device_any::DeviceBox;
 use io_edge::Gate;
 use std::alloc::{AllocError, Global};

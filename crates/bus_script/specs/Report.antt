@@ -1,5 +1,5 @@
 -- The text of a run's outcomes.
-use Rattle.std.specs.Prelude.{ℕ, ◌≡◌, ◌+◌, ◌*◌, ◌/◌, ◌%◌, Bool, true, false, List, [], ◌∷◌, ◌++◌, Option, Some, None, is_some, IfSome, ◌||◌, if◌then◌else◌, codes, count_by, sum_by, length, filter, take, nat_le}
+use Rattle.std.specs.Prelude.{ℕ, ◌≡◌, ◌+◌, ◌*◌, ◌/◌, ◌%◌, Bool, true, false, List, [], ◌∷◌, ◌++◌, Option, Some, None, is_some, IfSome, ◌&&◌, ◌||◌, if◌then◌else◌, codes, count_by, map, sum_by, length, filter, take, nat_le}
 use Rattle.std.specs.List.{flat_map, zip}
 use Rattle.std.specs.Option.{option_map_or}
 use Rattle.std.specs.Fmt.{decimal}
@@ -8,6 +8,7 @@ use Rattle.contact.specs.declared.version.Version.{Version}
 use Rattle.rndis_msg.specs.declared.rndis.Rndis.{Rndis}
 use Rattle.rndis_msg.specs.declared.rndis.Rndis.TheVariants.{Packet, QueryComplete, SetComplete, ResetComplete, KeepaliveComplete}
 use Rattle.rndis_msg.specs.Messages.{body_of}
+use Rattle.kvp_ic.specs.declared.message.KvpReply.{KvpReply}
 use Rattle.scsi_disk.specs.declared.reply.DiskReply.{DiskReply}
 use Rattle.scsi_disk.specs.declared.reply.DiskReply.TheVariants.{Good, Check}
 use Rattle.util_ic.specs.declared.ic.IcAnswer.{IcAnswer}
@@ -17,9 +18,9 @@ use Rattle.script_lines.specs.declared.line.Line.{Line}
 use Rattle.script_lines.specs.declared.line.What.{What}
 use Rattle.script_lines.specs.declared.line.What.TheVariants.{Contact as IsContact, Offer as IsOffer, Bad as IsBad, RingSize as IsRingSize, Window as IsWindow, Ask as IsAsk, Rescind as IsRescind, Shut as IsShut, Modify as IsModify, Phase as IsPhase}
 use Rattle.script_lines.specs.declared.line.Ask.{Ask}
-use Rattle.script_lines.specs.declared.line.Ask.TheVariants.{Ic, Disk as AskDisk, Net as AskNet}
+use Rattle.script_lines.specs.declared.line.Ask.TheVariants.{Ic, Disk as AskDisk, Net as AskNet, Kvp as AskKvp}
 use Rattle.bus_script.specs.declared.outcome.Reply.{Reply}
-use Rattle.bus_script.specs.declared.outcome.Reply.TheVariants.{Ic as IcReply, Disk as ReplyDisk, Net as ReplyNet}
+use Rattle.bus_script.specs.declared.outcome.Reply.TheVariants.{Ic as IcReply, Disk as ReplyDisk, Net as ReplyNet, Kvp as ReplyKvp}
 use Rattle.bus_script.specs.declared.outcome.LineResult.{LineResult}
 use Rattle.bus_script.specs.declared.outcome.LineResult.TheVariants.{Version as Agreed, Done, RescindedServed, Unserved, Modified, Unsupported, Gone, Closed}
 use Rattle.script_text.specs.Hex.{hex_8, hex_2, hex_short}
@@ -95,17 +96,26 @@ net_text (Packet frame) back = codes "sent" ++ back_text back
 net_text message None = []
 net_text message (Some back) = completion_text back
 
+-- a unit of a text as a byte: ? where no word of a line has it
+abbrev pub unit_text : ℕ → ℕ
+unit_text unit = if nat_le 0x21 unit && nat_le unit 0x7E then unit else 63
+
+-- a word and a text behind it, where there is one
+abbrev pub part_text : List ℕ → Option (List ℕ) → List ℕ
+part_text word None = []
+part_text word (Some units) = word ++ map unit_text units
+
+-- status 0xSTATUS, and behind it key KEY and value VALUE, where they came
+abbrev pub pair_text : KvpReply → List ℕ
+pair_text reply = status_text reply.status ++ (part_text (codes " key ") reply.key ++ part_text (codes " value ") reply.value)
+
 -- a reply to a request; one of another kind of device has no text
 abbrev pub reply_text : Ask → Reply → List ℕ
 reply_text (Ic ask) (IcReply answer) = answer_text ask answer
-reply_text (Ic ask) (ReplyDisk reply) = []
-reply_text (Ic ask) (ReplyNet status back) = []
-reply_text (AskDisk request) (IcReply answer) = []
 reply_text (AskDisk request) (ReplyDisk reply) = disk_text reply
-reply_text (AskDisk request) (ReplyNet status back) = []
-reply_text (AskNet message) (IcReply answer) = []
-reply_text (AskNet message) (ReplyDisk reply) = []
 reply_text (AskNet message) (ReplyNet status back) = net_text message back
+reply_text (AskKvp request) (ReplyKvp reply) = pair_text reply
+reply_text _ _ = []
 
 -- how many runs the bytes of a disk's reply have
 abbrev pub disk_runs : DiskReply → ℕ
@@ -117,25 +127,27 @@ abbrev pub net_runs : Option Rndis → ℕ
 net_runs None = 0
 net_runs (Some message) = length (runs_of (body_of message))
 
-abbrev pub reply_runs : Reply → ℕ
-reply_runs (IcReply answer) = 0
-reply_runs (ReplyDisk reply) = disk_runs reply
-reply_runs (ReplyNet status back) = net_runs back
+-- how many bytes of text a reply has beside 31 at most: 24 for each run that comes back, and those of the longest key and the longest value
+abbrev pub reply_room : Reply → ℕ
+reply_room (IcReply answer) = 0
+reply_room (ReplyDisk reply) = 24 * disk_runs reply
+reply_room (ReplyNet status back) = 24 * net_runs back
+reply_room (ReplyKvp reply) = 255 + 1023
 
--- how many runs an outcome has
-abbrev pub result_runs : LineResult → ℕ
-result_runs (Agreed count) = 0
-result_runs (Done serial reply) = reply_runs reply
-result_runs (RescindedServed serial) = 0
-result_runs Unserved = 0
-result_runs (Modified vp answered) = 0
-result_runs Unsupported = 0
-result_runs Gone = 0
-result_runs Closed = 0
+-- and an outcome
+abbrev pub result_room : LineResult → ℕ
+result_room (Agreed count) = 0
+result_room (Done serial reply) = reply_room reply
+result_room (RescindedServed serial) = 0
+result_room Unserved = 0
+result_room (Modified vp answered) = 0
+result_room Unsupported = 0
+result_room Gone = 0
+result_room Closed = 0
 
--- how many runs these outcomes have
-abbrev pub runs_back : List LineResult → ℕ
-runs_back results = sum_by result_runs results
+-- and these outcomes
+abbrev pub room_back : List LineResult → ℕ
+room_back results = sum_by result_room results
 
 -- done @SERIAL REPLY, and so on
 abbrev pub ask_text : Ask → LineResult → List ℕ
@@ -237,6 +249,6 @@ report_of lines results = lines_text lines results ++ end_text (asks_in lines) (
 abbrev pub HasVersion : What → Type 0
 HasVersion what = IfSome (contact_of what) (λ v. IsVersion v.0.0)
 
--- no outcome of a line has more bytes beside the runs that come back
+-- no outcome of a line has more bytes beside the room of what comes back
 abbrev pub most_text : What → ℕ
 most_text what = option_map_or (λ v. 55 + 42 * length (versions_from v.0.0)) (contact_of what) (if is_ask what || is_move what then 58 else 0)

@@ -1,6 +1,7 @@
 //! How the lines of a script ended.
 ghost use Rattle.std.specs.Prelude.{◌≡◌};
 
+use kvp_ic::KvpReply;
 use rndis_msg::Rndis;
 use scsi_disk::DiskReply;
 use util_ic::IcAnswer;
@@ -19,6 +20,8 @@ pub enum Reply {
         /// The message that came back, if one did.
         back: Option<Rndis>,
     },
+    /// The reply of a key-value service.
+    Kvp(KvpReply),
 }
 
 impl Reply {
@@ -36,6 +39,7 @@ impl Reply {
                     None => None,
                 },
             },
+            Reply::Kvp(reply) => Reply::Kvp(reply.again()),
         }
     }
 }

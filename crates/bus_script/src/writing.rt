@@ -1,15 +1,17 @@
 //! The report of a run, written as bytes.
-ghost use Rattle.std.specs.Prelude.{◌≡◌, ◌<◌, ◌≤◌, ◌++◌, ◌+◌, ◌*◌, ◌^◌, List, length, IfOk, OnOk, count_by, vec_len, codes, cond, false};
+ghost use Rattle.std.specs.Prelude.{◌≡◌, ◌<◌, ◌≤◌, ◌++◌, ◌+◌, ◌*◌, ◌^◌, List, length, IfOk, OnOk, count_by, map, vec_len, codes, cond, false};
 ghost use Rattle.std.specs.Fmt.{decimal};
 ghost use Rattle.contact.specs.Versions.{IsVersion};
 ghost use Rattle.script_lines.specs.Parts.{is_ask, asks_in};
 ghost use Rattle.script_text.specs.Hex.{hex_short};
 ghost use Rattle.script_text.specs.Runs.{runs_of, runs_text};
 ghost use Rattle.rndis_msg.specs.Messages.{body_of};
-ghost use Rattle.bus_script.specs.Report.{Answers, versions_from, last_or, tried, version_text, versions_text, contact_text, good_text, disk_text, disk_runs, answer_text, bytes_text, status_text, completion_text, back_text, net_text, net_runs, reply_text, reply_runs, result_runs, runs_back, ask_text, agreed_text, modified_text, outcome_text, line_text, end_text, report_of, tells, HasVersion, most_text, is_done, is_rescinded};
+ghost use Rattle.bus_script.specs.Report.{Answers, versions_from, last_or, tried, version_text, versions_text, contact_text, good_text, disk_text, disk_runs, answer_text, bytes_text, status_text, completion_text, back_text, net_text, net_runs, unit_text, part_text, pair_text, reply_text, reply_room, result_room, room_back, ask_text, agreed_text, modified_text, outcome_text, line_text, end_text, report_of, tells, HasVersion, most_text, is_done, is_rescinded};
 
 use crate::{LineResult, Reply};
 use contact::{Version, next_version};
+use kvp_ic::KvpReply;
+use kvp_pool::Units;
 use rndis_msg::Rndis;
 use script_lines::{Ask, Line, Script, What};
 use script_text::{hex_2, hex_8, push_decimal, push_runs};
@@ -23,7 +25,7 @@ use util_ic::{IcAnswer, IcAsk};
 pub fn report(alloc: Global, script: &Script, results: &[LineResult]) -> Result<Vec<u8>, AllocError>
     requires { Answers script.now results.now }
     ensures text { IfOk result (λ bytes. bytes.items ≡ report_of script.now results.now) }
-    ensures short { IfOk result (λ bytes. length bytes.items ≤ 12000000 + 24 * runs_back results.now) }
+    ensures short { IfOk result (λ bytes. length bytes.items ≤ 12000000 + room_back results.now) }
 {
     let mut text = Vec::new(alloc);
     let mut at = 0;
@@ -196,24 +198,73 @@ fn push_net(text: &mut Vec<u8>, message: &Rndis, back: &Option<Rndis>) -> Result
     }
 }
 
+/// A unit of a text as a byte: `?` where no word of a line has it.
+fn unit_byte(unit: u16) -> u8
+    ensures { result ≡ unit_text unit }
+{
+    if 0x21 <= unit && unit <= 0x7E {
+        unit as u8
+    } else {
+        b'?'
+    }
+}
+
+/// A text, a byte for each of its units.
+fn push_units(text: &mut Vec<u8>, units: &[u16]) -> Result<(), AllocError>
+    ensures text { OnOk result (text.new.items ≡ text.old.items ++ map unit_text units.now) }
+    ensures short { OnOk result (vec_len text.new ≤ vec_len text.old + length units.now) }
+{
+    for i in 0..units.len() {
+        text.push(unit_byte(units[i]))?;
+    }
+    Ok(())
+}
+
+/// A word and a text behind it, where there is one.
+fn push_part<const MIN: usize, const MAX: usize>(
+    text: &mut Vec<u8>,
+    word: &[u8],
+    part: &Option<Units<MIN, MAX>>,
+) -> Result<(), AllocError>
+    ensures text { OnOk result (text.new.items ≡ text.old.items ++ part_text word.now part.now) }
+    ensures short { OnOk result (vec_len text.new ≤ vec_len text.old + length word.now + MAX) }
+{
+    match part {
+        Some(units) => {
+            text.extend_from_slice(word)?;
+            push_units(text, units.units())
+        }
+        None => Ok(()),
+    }
+}
+
+/// A key-value service's reply.
+fn push_pair(text: &mut Vec<u8>, reply: &KvpReply) -> Result<(), AllocError>
+    ensures text { OnOk result (text.new.items ≡ text.old.items ++ pair_text reply.now) }
+    ensures short { OnOk result (vec_len text.new ≤ vec_len text.old + 29 + 255 + 1023) }
+{
+    push_status(text, reply.status)?;
+    push_part(text, b" key ", &reply.key)?;
+    push_part(text, b" value ", &reply.value)
+}
+
 /// A reply to a request. One of another kind of device has no text.
 fn push_reply(text: &mut Vec<u8>, ask: &Ask, reply: &Reply) -> Result<(), AllocError>
     ensures text { OnOk result (text.new.items ≡ text.old.items ++ reply_text ask.now reply.now) }
-    ensures short { OnOk result (vec_len text.new ≤ vec_len text.old + 31 + 24 * reply_runs reply.now) }
+    ensures short { OnOk result (vec_len text.new ≤ vec_len text.old + 31 + reply_room reply.now) }
 {
     match (ask, reply) {
         (Ask::Ic(ask), Reply::Ic(answer)) => push_answer(text, ask, answer),
         (Ask::Disk(_), Reply::Disk(reply)) => push_disk(text, reply),
         (Ask::Net(message), Reply::Net { back, .. }) => push_net(text, message, back),
-        (Ask::Ic(_), Reply::Disk(_) | Reply::Net { .. })
-        | (Ask::Disk(_), Reply::Ic(_) | Reply::Net { .. })
-        | (Ask::Net(_), Reply::Ic(_) | Reply::Disk(_)) => Ok(()),
+        (Ask::Kvp(_), Reply::Kvp(reply)) => push_pair(text, reply),
+        (_, _) => Ok(()),
     }
 }
 
 fn push_done(text: &mut Vec<u8>, serial: u32, ask: &Ask, reply: &Reply) -> Result<(), AllocError>
     ensures text { OnOk result (text.new.items ≡ text.old.items ++ ask_text ask.now (LineResult.Done serial reply.now)) }
-    ensures short { OnOk result (vec_len text.new ≤ vec_len text.old + 58 + 24 * reply_runs reply.now) }
+    ensures short { OnOk result (vec_len text.new ≤ vec_len text.old + 58 + reply_room reply.now) }
 {
     text.extend_from_slice(b"done @")?;
     push_decimal(text, serial as u64)?;
@@ -293,7 +344,7 @@ fn push_contact(text: &mut Vec<u8>, guest: Version, count: u32) -> Result<(), Al
 
 fn push_asked(text: &mut Vec<u8>, ask: &Ask, outcome: &LineResult) -> Result<(), AllocError>
     ensures text { OnOk result (text.new.items ≡ text.old.items ++ ask_text ask.now outcome.now) }
-    ensures short { OnOk result (vec_len text.new ≤ vec_len text.old + 58 + 24 * result_runs outcome.now) }
+    ensures short { OnOk result (vec_len text.new ≤ vec_len text.old + 58 + result_room outcome.now) }
 {
     match outcome {
         LineResult::Version { .. } | LineResult::Modified { .. } | LineResult::Unsupported => {}
@@ -358,7 +409,7 @@ fn push_modified(text: &mut Vec<u8>, outcome: &LineResult) -> Result<(), AllocEr
 fn push_outcome(text: &mut Vec<u8>, what: &What, outcome: &LineResult) -> Result<(), AllocError>
     requires { HasVersion what.now }
     ensures text { OnOk result (text.new.items ≡ text.old.items ++ outcome_text what.now outcome.now) }
-    ensures short { OnOk result (vec_len text.new ≤ vec_len text.old + most_text what.now + 24 * result_runs outcome.now) }
+    ensures short { OnOk result (vec_len text.new ≤ vec_len text.old + most_text what.now + result_room outcome.now) }
 {
     match what {
         What::Contact { guest, .. } => push_agreed(text, *guest, outcome)?,
@@ -372,7 +423,7 @@ fn push_outcome(text: &mut Vec<u8>, what: &What, outcome: &LineResult) -> Result
 fn push_line(text: &mut Vec<u8>, line: &Line, outcome: &LineResult) -> Result<(), AllocError>
     requires { HasVersion line.now.what }
     ensures text { OnOk result (text.new.items ≡ text.old.items ++ line_text line.now outcome.now) }
-    ensures short { OnOk result (vec_len text.new ≤ vec_len text.old + 22 + most_text line.now.what + 24 * result_runs outcome.now) }
+    ensures short { OnOk result (vec_len text.new ≤ vec_len text.old + 22 + most_text line.now.what + result_room outcome.now) }
 {
     push_decimal(text, line.number as u64)?;
     text.extend_from_slice(b" ")?;

@@ -6,7 +6,7 @@ ghost use Rattle.contact.specs.declared.kind.Kind.{Kind};
 use crate::Kind;
 use crate::service::{port_in, service_id};
 
-// As HV_HEART_BEAT_GUID, HV_SHUTDOWN_GUID, HV_SCSI_GUID and HV_NIC_GUID of Linux
+// As HV_HEART_BEAT_GUID, HV_SHUTDOWN_GUID, HV_SCSI_GUID, HV_NIC_GUID and HV_KVP_GUID of Linux
 // (include/linux/hyperv.h): of the five groups the first three are little-endian.
 const BEAT: [u8; 16] = [
     0x39, 0x4f, 0x16, 0x57, 0x15, 0x91, 0x78, 0x4e, 0xab, 0x55, 0x38, 0x2f, 0x3b, 0xd5, 0x42, 0x2d,
@@ -24,6 +24,10 @@ const NET: [u8; 16] = [
     0x63, 0x51, 0x61, 0xf8, 0x3e, 0xdf, 0xc5, 0x46, 0x91, 0x3f, 0xf2, 0xd2, 0xf9, 0x65, 0xed, 0x0e,
 ];
 
+const KVP: [u8; 16] = [
+    0xe7, 0xf4, 0xa0, 0xa9, 0x45, 0x5a, 0x96, 0x4d, 0xb8, 0x27, 0x8a, 0x84, 0x1e, 0x8c, 0x03, 0xe6,
+];
+
 /// The class id of a kind.
 pub fn class_id(kind: Kind) -> [u8; 16]
     ensures { result ≡ class_id kind }
@@ -33,6 +37,7 @@ pub fn class_id(kind: Kind) -> [u8; 16]
         Kind::Down => DOWN,
         Kind::Disk => DISK,
         Kind::Net => NET,
+        Kind::Kvp => KVP,
         Kind::Sock { port } => service_id(port),
     }
 }
@@ -49,6 +54,8 @@ pub fn kind_of(id: &[u8; 16]) -> Option<Kind>
         Some(Kind::Disk)
     } else if *id == NET {
         Some(Kind::Net)
+    } else if *id == KVP {
+        Some(Kind::Kvp)
     } else {
         match port_in(id) {
             Some(port) => Some(Kind::Sock { port }),

@@ -13,6 +13,8 @@ pub enum DeviceKind {
     Disk,
     /// A network device.
     Net,
+    /// The key-value service.
+    Kvp,
 }
 
 /// What is at the other end of an offered channel: a device, or a service that listens at a port.
@@ -26,6 +28,8 @@ pub enum Kind {
     Disk,
     /// A network device.
     Net,
+    /// The key-value service.
+    Kvp,
     /// A socket's service.
     Sock {
         /// The port at which the service listens.
@@ -42,5 +46,6 @@ pub fn offered_kind(kind: DeviceKind) -> Kind
         DeviceKind::Down => Kind::Down,
         DeviceKind::Disk => Kind::Disk,
         DeviceKind::Net => Kind::Net,
+        DeviceKind::Kvp => Kind::Kvp,
     }
 }

@@ -4,3 +4,4 @@ pub mod TextLaws
 pub mod AskLaws
 pub mod WriteLaws
 pub mod ReplyLaws
+pub mod SpelledLaws

@@ -1,5 +1,5 @@
 -- Answers, as they are written: what they say.
-use Rattle.std.proofs.Common.{◌≡◌, ◌≢◌, ℕ, ◌+◌, ◌-◌, ◌^◌, ◌<◌, ◌≤◌, ◌==◌, ◌&&◌, true, false, cond, is_none, nat_lt, List, ◌++◌, length, take, drop, append_assoc, length-append, length-drop, Option, Some, None, inl, inr, refl, sym, ap, subst, ◌∙◌, arith}
+use Rattle.std.proofs.Common.{◌≡◌, ◌≢◌, ℕ, ◌+◌, ◌-◌, ◌^◌, ◌<◌, ◌≤◌, ◌==◌, ◌&&◌, Bool, true, false, cond, is_none, nat_lt, List, ◌++◌, length, take, drop, append_assoc, length-append, length-drop, Option, Some, None, inl, inr, refl, sym, ap, subst, ◌∙◌, arith}
 use Rattle.std.specs.Prelude.{◌⊎◌, IfSome}
 use Rattle.std.proofs.lemmas.Bool.Decides.{nat_tests}
 use Rattle.std.proofs.lemmas.List.{drop_at, drop-drop, length-take-le, drop-append-le, take-append-drop}
@@ -214,6 +214,33 @@ answer_says op b r long small fits =
       status = two.status ∙ (one.status ∙ result_status r.status b long small);
       operation = two.operation ∙ (one.operation ∙ result_operation r.status b long);
     }
+
+-- an answer has as many bytes as its request
+pub answer_size : (b : List ℕ) (r : KvpReply) → 28 ≤ length b → r.status < 2 ^ 32 → Fits (operation_of b) b r → length (kvp_answer b r) ≡ length b
+answer_size b r long small fits = (answer_says (operation_of b) b r long small fits).size
+
+-- a part of a reply to a request is a text
+part_text : (t : Bool) (min max : ℕ) (part : Option (List ℕ)) → IsPart t min max part → IfSome part (λ us. IsText min max us)
+part_text true min max (Some us) h = h
+part_text true min max None h = tt
+part_text false min max (Some us) h = absurd h
+part_text false min max None h = tt
+
+no_part : (min max : ℕ) (part : Option (List ℕ)) → part ≡ None → IfSome part (λ us. IsText min max us)
+no_part min max part none = subst (λ o. IfSome o (λ us. IsText min max us)) (sym none) tt
+
+texts_in : (m : Kvp) (r : KvpReply) → IsReplyTo m r → IfSome r.key (λ us. IsText 1 255 us) × IfSome r.value (λ us. IsText 0 1023 us) × (r.status < 2 ^ 32)
+texts_in (Get pool key) r h = (no_part 1 255 r.key h.0, part_text (r.status == 0) 0 1023 r.value h.1, h.2)
+texts_in (Set pool key value) r h = (no_part 1 255 r.key h.0, no_part 0 1023 r.value h.1, h.2)
+texts_in (Delete pool key) r h = (no_part 1 255 r.key h.0, no_part 0 1023 r.value h.1, h.2)
+texts_in (Enum pool index) r h = (part_text (r.status == 0) 1 255 r.key h.0, part_text (r.status == 0) 0 1023 r.value h.1, h.2)
+
+-- so a reply to what isn't refused fits the message
+pub reply_fits : (m : Kvp) (b : List ℕ) (r : KvpReply) → fault_of b ≡ None → IsReplyTo m r → Fits (operation_of b) b r × (r.status < 2 ^ 32)
+reply_fits m b r right reply =
+    let texts = texts_in m r reply in
+    let can = may_carry b r right in
+    ((texts.0, texts.1, part_fits r.key b can.key, part_fits r.value b can.value), texts.2)
 
 module _ (op : ℕ) (b more : List ℕ) (r : KvpReply) (says : Says (answer_at op b r) b r.status) (long : 28 ≤ length b) where
   abbrev x : List ℕ

@@ -13,7 +13,7 @@ use Rattle.kvp_ic.specs.declared.message.Kvp.{Kvp}
 use Rattle.kvp_ic.specs.declared.message.Kvp.TheVariants.{Get, Set, Delete, Enum}
 use Rattle.kvp_ic.specs.Machine.{pool_of}
 use Rattle.kvp_ic.specs.Texts.{text_size, field_of, Holds}
-use Rattle.kvp_ic.specs.Messages.{asked_rows, record_rows, field_rows, keyed_rows, placed_rows, kvp_bytes, operation_of, pool_in, key_place, value_place, Asks}
+use Rattle.kvp_ic.specs.Messages.{asked_rows, record_rows, field_rows, keyed_rows, placed_rows, kvp_bytes, operation_of, pool_in, key_place, value_place, Asks, HasTexts, CanBeAsked}
 use Rattle.kvp_ic.proofs.TextLaws.{field_read, length-field_of}
 
 first_byte : (x : List ℕ) → number_of (take 1 x) ≡ get_or x 0 0
@@ -113,13 +113,6 @@ module _ (op pool : ℕ) (key value : List ℕ) (vs : ℕ) (more : List ℕ) (o 
         here = ap (numbers_in 2 (length value + 1)) behind ∙ field_read 2048 value more t.fits (omega (arith, t.most));
       }
 
--- the texts of a request are texts, and its place is a number of 4 bytes
-abbrev pub HasTexts : Kvp → Type 0
-HasTexts (Get pool key) = IsText 1 255 key
-HasTexts (Set pool key value) = IsText 1 255 key × IsText 0 1023 value
-HasTexts (Delete pool key) = IsText 1 255 key
-HasTexts (Enum pool index) = index < 2 ^ 32
-
 -- whatever follows, a request's bytes ask it
 pub bytes_ask : (m : Kvp) → HasTexts m → pool_of m ≤ 4 → (more : List ℕ) → Asks m (kvp_bytes m ++ more)
 bytes_ask (Get pool key) t p more =
@@ -175,3 +168,7 @@ bytes_ask (Enum pool index) t p more =
       },
       ap (nth_number 15) again.0,
     )
+
+-- so does what can be asked
+pub can_ask : (m : Kvp) → CanBeAsked m → (more : List ℕ) → Asks m (kvp_bytes m ++ more)
+can_ask m can more = bytes_ask m can.0 can.1 more

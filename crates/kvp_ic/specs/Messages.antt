@@ -1,11 +1,13 @@
 -- The messages of key-value exchange: two headers of 28 bytes together, the operation, the pool, where a place is asked for its
 -- number, and a record: the value's type, the sizes of key and value, and a field for each.
-use Rattle.std.specs.Prelude.{◌≡◌, ℕ, ◌+◌, ◌≤◌, ◌==◌, List, [], ◌∷◌, length, slice_index, if◌then◌else◌}
+use Rattle.std.specs.Prelude.{◌≡◌, ℕ, ◌+◌, ◌^◌, ◌<◌, ◌≤◌, ◌==◌, List, [], ◌∷◌, length, slice_index, if◌then◌else◌}
 use Rattle.wire_table.specs.Rows.{Row, num, raw, spelled_after}
 use Rattle.util_ic.specs.Messages.{number_at, request_rows}
 use Rattle.kvp_ic.specs.declared.message.Kvp.{Kvp}
 use Rattle.kvp_ic.specs.declared.message.Kvp.TheVariants.{Get, Set, Delete, Enum}
 use Rattle.kvp_ic.specs.declared.text.TextPlace.{TextPlace}
+use Rattle.kvp_pool.specs.Pools.{IsText}
+use Rattle.kvp_ic.specs.Machine.{pool_of}
 use Rattle.kvp_ic.specs.Texts.{text_size, field_of, Holds}
 
 -- ---- what is written
@@ -39,6 +41,17 @@ rows_of (Enum pool index) = placed_rows pool index (field_rows [] [])
 -- a request of message version 3.0: 2,604 bytes, or 2,608 where a place is asked for
 abbrev pub kvp_bytes : Kvp → List ℕ
 kvp_bytes m = spelled_after [] (rows_of m)
+
+-- the texts of a request are texts, and its place is a number of 4 bytes
+abbrev pub HasTexts : Kvp → Type 0
+HasTexts (Get pool key) = IsText 1 255 key
+HasTexts (Set pool key value) = IsText 1 255 key × IsText 0 1023 value
+HasTexts (Delete pool key) = IsText 1 255 key
+HasTexts (Enum pool index) = index < 2 ^ 32
+
+-- a request that a message can say, of one of the five pools
+abbrev pub CanBeAsked : Kvp → Type 0
+CanBeAsked m = HasTexts m × (pool_of m ≤ 4)
 
 -- ---- what is read
 

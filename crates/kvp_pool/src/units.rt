@@ -53,6 +53,7 @@ impl<const MIN: usize, const MAX: usize> Units<MIN, MAX> {
         ensures text { IsText MIN MAX result }
     {
         let held = Units { len, units };
+        // For the proof: the law is known where it is called.
         let _units = held.units();
         held
     }
@@ -83,6 +84,7 @@ impl<const MIN: usize, const MAX: usize> Units<MIN, MAX> {
         ensures value { result ≡ self.now }
         ensures text { IsText MIN MAX result }
     {
+        // For the proof: the law is known where it is called.
         let _units = self.units();
         Units {
             len: self.len,
@@ -95,6 +97,7 @@ impl<const MIN: usize, const MAX: usize> Units<MIN, MAX> {
 fn are_units(units: &[u16])
     ensures { AllByRecursion (λ u. u < 2 ^ 16) units.now }
 {
+    // For the proof: the numbers of a slice that is read are known to fit their type.
     let _len = units.len();
 }
 

@@ -4,13 +4,13 @@ use Rattle.std.specs.Option.{option_map_or}
 use Rattle.script_text.specs.Words.{is_word}
 use Rattle.script_text.specs.Forms.{is_name, is_decimal, number_of, in_u64, is_byte, is_version, version_of, are_bytes, bytes_of, is_address, is_oid}
 use Rattle.script_explain.specs.declared.form.Form.{Form}
-use Rattle.script_explain.specs.declared.form.Form.TheVariants.{End, Name, Kind, Number, Version, Byte, Bytes, Oid, Address, After, Held}
+use Rattle.script_explain.specs.declared.form.Form.TheVariants.{End, Name, Kind, Number, Version, Byte, Bytes, Oid, Address, After, Held, Operation, Text}
 
 -- a word has the form
 abbrev pub takes : Form → List ℕ → Bool
 takes End word = false
 takes Name word = is_name word
-takes Kind word = bytes_eq word (codes "hb") || (bytes_eq word (codes "shutdown") || (bytes_eq word (codes "disk") || bytes_eq word (codes "net")))
+takes Kind word = bytes_eq word (codes "hb") || (bytes_eq word (codes "shutdown") || (bytes_eq word (codes "disk") || (bytes_eq word (codes "net") || bytes_eq word (codes "kvp"))))
 takes (Number low high) word = is_decimal word
 takes Version word = is_version word
 takes Byte word = is_byte word
@@ -19,6 +19,8 @@ takes Oid word = is_oid word
 takes Address word = is_address word
 takes After word = bytes_eq word (codes "after")
 takes Held word = bytes_eq word (codes "held")
+takes Operation word = bytes_eq word (codes "set") || (bytes_eq word (codes "get") || (bytes_eq word (codes "del") || bytes_eq word (codes "enum")))
+takes (Text most) word = true
 
 -- nothing may stand there
 abbrev pub may_lack : Form → Bool
@@ -33,6 +35,8 @@ may_lack Oid = false
 may_lack Address = false
 may_lack After = false
 may_lack Held = true
+may_lack Operation = false
+may_lack (Text most) = false
 
 -- a word of the form is in its range
 abbrev pub admits : Form → List ℕ → Bool
@@ -47,6 +51,8 @@ admits Oid word = true
 admits Address word = true
 admits After word = true
 admits Held word = true
+admits Operation word = true
+admits (Text most) word = nat_le (length word) most
 
 -- what stands there, a word or nothing, has the form
 abbrev pub fits : Form → List ℕ → Bool

@@ -13,7 +13,7 @@ use Rattle.script_explain.specs.Places.{text_at, word_at}
 
 -- the row that a line nearly is: the one that begins with its first word
 abbrev pub row_at : List ℕ → Option Row
-row_at line = row_of (text_at line 0) (text_at line 1)
+row_at line = row_of (text_at line 0) (text_at line 1) (text_at line 2)
 
 abbrev pub begins_with : List ℕ → List ℕ → Bool
 begins_with line key = bytes_eq (text_at line 0) key

@@ -34,6 +34,10 @@ pub(crate) enum Form {
     After,
     /// The word `held`, or nothing.
     Held,
+    /// What is done to a pair.
+    Operation,
+    /// A word of so many characters at most.
+    Text { most: usize },
 }
 
 impl Form {
@@ -49,6 +53,7 @@ impl Form {
                     || word == b"shutdown".as_slice()
                     || word == b"disk".as_slice()
                     || word == b"net".as_slice()
+                    || word == b"kvp".as_slice()
             }
             Form::Number { .. } => is_decimal(word),
             Form::Version => is_version(word),
@@ -58,6 +63,13 @@ impl Form {
             Form::Address => is_address(word),
             Form::After => word == b"after".as_slice(),
             Form::Held => word == b"held".as_slice(),
+            Form::Operation => {
+                word == b"set".as_slice()
+                    || word == b"get".as_slice()
+                    || word == b"del".as_slice()
+                    || word == b"enum".as_slice()
+            }
+            Form::Text { .. } => true,
         }
     }
 
@@ -94,6 +106,7 @@ impl Form {
             Form::Number { low, high } => admits_number(word, low, high),
             Form::Version => is_version(word) && version_of(word).is_some(),
             Form::Bytes { least, most } => admits_bytes(word, least, most),
+            Form::Text { most } => word.len() <= most,
             _ => true,
         }
     }

@@ -12,7 +12,7 @@ use script_text::{Why6, first_line};
 pub(crate) fn row_at(line: &[u8]) -> Option<Row>
     ensures { result ≡ row_at line.now }
 {
-    row_of(text_at(line, 0), text_at(line, 1))
+    row_of(text_at(line, 0), text_at(line, 1), text_at(line, 2))
 }
 
 /// Where the word at fault stands.

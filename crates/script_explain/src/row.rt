@@ -1,6 +1,6 @@
 //! The rows of the table of lines, as they are told.
 ghost use Rattle.std.specs.Prelude.{◌≡◌};
-ghost use Rattle.script_explain.specs.Rows.{device_row, disk_row, ending_row, forms, offer_row, row_of, settings_row, told};
+ghost use Rattle.script_explain.specs.Rows.{device_row, disk_row, ending_row, forms, offer_row, row_of, settings_row, told, pair_row};
 
 use crate::form::Form;
 
@@ -28,6 +28,11 @@ pub(crate) enum Row {
     Keep,
     Reset,
     Frame,
+    Pair,
+    PairSet,
+    PairGet,
+    PairDelete,
+    PairEnum,
     Rescind,
     Close,
     Modify,
@@ -41,7 +46,13 @@ const WIDE: Form = Form::Number {
 };
 
 // So many blocks.
-const COUNT: Form = Form::Number { low: 0, high: 4 };
+const COUNT: Form = Form::Number { low: 0, high: 8 };
+
+// The number of a pool.
+const POOL: Form = Form::Number { low: 0, high: 4 };
+
+// A key's characters.
+const KEY: Form = Form::Text { most: 255 };
 
 impl Row {
     /// How it is written, with its ranges.
@@ -51,7 +62,7 @@ impl Row {
         match self {
             Row::Contact => b"contact GUEST HOST: each is 2.4, 3.0, 4.0, 4.1, 5.0, 5.1, 5.2 or 5.3",
             Row::Offer =>
-                b"offer hb NAME, offer shutdown NAME, offer disk NAME BLOCKS SUBS or offer net NAME MAC STATION",
+                b"offer hb NAME, offer shutdown NAME, offer kvp NAME, offer disk NAME BLOCKS SUBS or offer net NAME MAC STATION",
             Row::OfferDisk =>
                 b"offer disk NAME BLOCKS SUBS: BLOCKS is 1 to 1099511627776, SUBS 0 to 3",
             Row::OfferNet =>
@@ -74,6 +85,13 @@ impl Row {
             Row::Keep => b"keep NAME",
             Row::Reset => b"reset NAME",
             Row::Frame => b"frame NAME HEX: HEX is 14 to 1514 bytes",
+            Row::Pair =>
+                b"kvp NAME set POOL KEY VALUE, kvp NAME get POOL KEY, kvp NAME del POOL KEY or kvp NAME enum POOL INDEX",
+            Row::PairSet =>
+                b"kvp NAME set POOL KEY VALUE: POOL is 0 to 4, KEY 1 to 255 characters, VALUE 1 to 1023",
+            Row::PairGet => b"kvp NAME get POOL KEY: POOL is 0 to 4, KEY 1 to 255 characters",
+            Row::PairDelete => b"kvp NAME del POOL KEY: POOL is 0 to 4, KEY 1 to 255 characters",
+            Row::PairEnum => b"kvp NAME enum POOL INDEX: POOL is 0 to 4, INDEX 0 to 4294967295",
             Row::Rescind =>
                 b"rescind NAME after K, or rescind NAME after K held: K is 0 to 4096, and at least 1 before held",
             Row::Close => b"close NAME",
@@ -165,6 +183,25 @@ impl Row {
                 Form::End,
                 Form::End,
             ],
+            Row::Pair => [Form::Name, Form::Operation, POOL, Form::End, Form::End],
+            Row::PairSet => [
+                Form::Name,
+                Form::Operation,
+                POOL,
+                KEY,
+                Form::Text { most: 1_023 },
+            ],
+            Row::PairGet | Row::PairDelete => [Form::Name, Form::Operation, POOL, KEY, Form::End],
+            Row::PairEnum => [
+                Form::Name,
+                Form::Operation,
+                POOL,
+                Form::Number {
+                    low: 0,
+                    high: 4_294_967_295,
+                },
+                Form::End,
+            ],
             Row::Rescind => [
                 Form::Name,
                 Form::After,
@@ -188,12 +225,15 @@ impl Row {
     }
 }
 
-/// The row that begins with a word; of an offer the second word tells which.
-pub(crate) fn row_of(key: &[u8], second: &[u8]) -> Option<Row>
-    ensures { result ≡ row_of key.now second.now }
+/// The row that begins with a word; of an offer the second word tells which, and of what a key-value service is asked the third.
+pub(crate) fn row_of(key: &[u8], second: &[u8], third: &[u8]) -> Option<Row>
+    ensures { result ≡ row_of key.now second.now third.now }
 {
     if key == b"offer".as_slice() {
         return Some(offer_row(second));
+    }
+    if key == b"kvp".as_slice() {
+        return Some(pair_row(third));
     }
     match settings_row(key) {
         Some(row) => Some(row),
@@ -217,6 +257,23 @@ fn offer_row(kind: &[u8]) -> Row
         Row::OfferNet
     } else {
         Row::Offer
+    }
+}
+
+// Of what a key-value service is asked.
+fn pair_row(operation: &[u8]) -> Row
+    ensures { result ≡ pair_row operation.now }
+{
+    if operation == b"set".as_slice() {
+        Row::PairSet
+    } else if operation == b"get".as_slice() {
+        Row::PairGet
+    } else if operation == b"del".as_slice() {
+        Row::PairDelete
+    } else if operation == b"enum".as_slice() {
+        Row::PairEnum
+    } else {
+        Row::Pair
     }
 }
 

@@ -14,7 +14,6 @@ use Rattle.script_lines.specs.declared.line.Line.{Line}
 use Rattle.script_lines.specs.declared.line.What.{What}
 use Rattle.script_lines.specs.declared.line.What.TheVariants.{Contact as IsContact, Offer as IsOffer, Bad as IsBad, RingSize as IsRingSize, Window as IsWindow, Ask as IsAsk, Rescind as IsRescind, Shut as IsShut, Modify as IsModify, Phase as IsPhase}
 use Rattle.script_lines.specs.declared.line.DeviceSpec.{DeviceSpec}
-use Rattle.script_lines.specs.declared.line.DeviceSpec.TheVariants.{Beat, Down, Disk, Net}
 use Rattle.script_lines.specs.Parts.{ends_part, parts, is_settings, is_ask, asks_in, offered_by, offered, named_by, names, kind_of, kind_asked, rescinds, shuts, modifies, modifies_in, modified_here, this_part, phase_from, channels_of, channels, blocks_of, blocks_at}
 use Rattle.script_lines.specs.WellFormed.{IsRight, AllRight, AskGoes, AllGo, is_contact, contact_first, settings_first, IsScript, Fits}
 use Rattle.script_lines.proofs.Phases.{by_test, each_phase, each_other, this_has, count_yes, count_no, none_such, none_counted}
@@ -96,16 +95,10 @@ settings_push (k ∷ ks) l first all = by_test (is_settings k.what)
     (λ is. let both = both_true (is_settings k.what) (list_all (λ m. is_settings m.what) ks) (all is) in absurd (cc (both.0, e)))
     (λ is. all_pass (λ m. not (is_settings m.what)) ks l (sym (ap (λ b. if b then settings_first ks else list_all (λ m. not (is_settings m.what)) ks) e) ∙ first) (ap not is)))
 
-one_channel : (d : DeviceSpec) → 1 ≤ channels_of d
-one_channel Beat = omega arith
-one_channel Down = omega arith
-one_channel (Disk blocks subs) = omega arith
-one_channel (Net mac station) = omega arith
-
 -- a device has a channel at least
 pub length_channels : (ds : List DeviceSpec) → length ds ≤ sum_by channels_of ds
 length_channels [] = omega arith
-length_channels (d ∷ ds) = omega (arith, length_channels ds, one_channel d, sum_by-cons channels_of d ds)
+length_channels (d ∷ ds) = omega (arith, length_channels ds, sum_by-cons channels_of d ds)
 
 pub channels_more : (ls : List Line) (l : Line) → channels (ls ++ l ∷ []) ≡ channels ls + sum_by channels_of (offered_by l.what)
 channels_more ls l = ap (sum_by channels_of) (offered_more ls l) ∙ sum_by-append channels_of (offered ls) (offered_by l.what)

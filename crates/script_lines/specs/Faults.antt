@@ -6,13 +6,13 @@ use Rattle.script_text.specs.declared.fault.Why6.{Why6}
 use Rattle.script_text.specs.declared.fault.Why6.TheVariants.{Form, Limit, Order, UnknownName, Repeat, Range}
 use Rattle.script_lines.specs.declared.line.Line.{Line}
 use Rattle.script_lines.specs.declared.line.DeviceSpec.{DeviceSpec}
-use Rattle.script_lines.specs.declared.line.DeviceSpec.TheVariants.{Beat as IsBeat, Down as IsDown, Disk as IsDisk, Net as IsNet}
+use Rattle.script_lines.specs.declared.line.DeviceSpec.TheVariants.{Beat as IsBeat, Down as IsDown, Disk as IsDisk, Net as IsNet, Kvp as IsKvp}
 use Rattle.script_lines.specs.declared.asked.Asked.{Asked}
-use Rattle.script_lines.specs.declared.asked.Asked.TheVariants.{Beat, Down, Command, Message}
+use Rattle.script_lines.specs.declared.asked.Asked.TheVariants.{Beat, Down, Command, Message, Pair}
 use Rattle.script_lines.specs.declared.disk_ask.DiskAsk.{DiskAsk}
 use Rattle.script_lines.specs.declared.disk_ask.DiskAsk.TheVariants.{Ready, Inquiry, Capacity, LongCapacity, Flush, Read, Write}
 use Rattle.script_lines.specs.declared.offering.Offering.{Offering}
-use Rattle.script_lines.specs.declared.offering.Offering.TheVariants.{Beat as OfBeat, Down as OfDown, Disk as OfDisk, Net as OfNet}
+use Rattle.script_lines.specs.declared.offering.Offering.TheVariants.{Beat as OfBeat, Down as OfDown, Disk as OfDisk, Net as OfNet, Kvp as OfKvp}
 use Rattle.script_lines.specs.declared.said.Said.{Said}
 use Rattle.script_lines.specs.declared.said.Said.TheVariants.{Nothing, Contact, Offer, Bad, Ring, Window, Request, Rescind, Close, Modify, Phase}
 use Rattle.script_lines.specs.Parts.{is_settings, asks_in, this_part, phases_over, offered, channels, has_bad, has_ring, has_window, rescinded_in, closed_in, modified_here, device_of, blocks_at}
@@ -70,6 +70,7 @@ channels_said OfDown = Some 1
 channels_said (OfDisk blocks None) = None
 channels_said (OfDisk blocks (Some subs)) = Some (1 + subs)
 channels_said (OfNet mac station) = Some 1
+channels_said OfKvp = Some 1
 
 -- with them the devices have 16 channels at most
 abbrev pub has_room : List Line → Offering → Bool
@@ -124,29 +125,26 @@ own_order before device Phase = None
 abbrev pub order_fault : List Line → Option ℕ → Said → Option Why6
 order_fault before device said = option_or (unless (not (says_settings said) || list_all (λ l. is_settings l.what) before) Order) (own_order before device said)
 
+-- which kind of device it is
 abbrev pub is_beat : DeviceSpec → Bool
 is_beat IsBeat = true
-is_beat IsDown = false
-is_beat (IsDisk blocks subs) = false
-is_beat (IsNet mac station) = false
+is_beat _ = false
 
 abbrev pub is_down : DeviceSpec → Bool
-is_down IsBeat = false
 is_down IsDown = true
-is_down (IsDisk blocks subs) = false
-is_down (IsNet mac station) = false
+is_down _ = false
 
 abbrev pub is_disk : DeviceSpec → Bool
-is_disk IsBeat = false
-is_disk IsDown = false
 is_disk (IsDisk blocks subs) = true
-is_disk (IsNet mac station) = false
+is_disk _ = false
 
 abbrev pub is_net : DeviceSpec → Bool
-is_net IsBeat = false
-is_net IsDown = false
-is_net (IsDisk blocks subs) = false
 is_net (IsNet mac station) = true
+is_net _ = false
+
+abbrev pub is_kvp : DeviceSpec → Bool
+is_kvp IsKvp = true
+is_kvp _ = false
 
 -- the kind of device that is asked this
 abbrev pub takes : Asked → DeviceSpec → Bool
@@ -154,6 +152,7 @@ takes (Beat seq) spec = is_beat spec
 takes (Down flags) spec = is_down spec
 takes (Command ask) spec = is_disk spec
 takes (Message message) spec = is_net spec
+takes (Pair request) spec = is_kvp spec
 
 -- a device that can be rescinded: a disk or a network
 abbrev pub is_rescindable : DeviceSpec → Bool
@@ -209,6 +208,7 @@ offers_in_range OfBeat = true
 offers_in_range OfDown = true
 offers_in_range (OfDisk blocks subs) = is_some blocks && is_some (within 0 3 subs)
 offers_in_range (OfNet mac station) = true
+offers_in_range OfKvp = true
 
 -- a block of the device
 abbrev pub is_block : List Line → Option ℕ → Option ℕ → Bool
@@ -228,6 +228,7 @@ asked_in_range (Beat seq) = is_some seq
 asked_in_range (Down flags) = is_some flags
 asked_in_range (Command ask) = asks_in_range ask
 asked_in_range (Message message) = is_some message
+asked_in_range (Pair request) = is_some request
 
 -- Range: each value is in its range
 abbrev pub range_fault : List Line → Option ℕ → Said → Option Why6

@@ -9,14 +9,15 @@ use Rattle.script_lines.specs.declared.line.Line.{Line}
 use Rattle.script_lines.specs.declared.line.What.{What}
 use Rattle.script_lines.specs.declared.line.What.TheVariants.{Contact as IsContact, Offer as IsOffer, Bad as IsBad, RingSize as IsRingSize, Window as IsWindow, Ask as IsAsk, Rescind as IsRescind, Shut as IsShut, Modify as IsModify, Phase as IsPhase}
 use Rattle.script_lines.specs.declared.line.Ask.{Ask}
-use Rattle.script_lines.specs.declared.line.Ask.TheVariants.{Ic, Disk as AskDisk, Net as AskNet}
+use Rattle.script_lines.specs.declared.line.Ask.TheVariants.{Ic, Disk as AskDisk, Net as AskNet, Kvp as AskKvp}
 use Rattle.script_lines.specs.declared.line.DeviceSpec.{DeviceSpec}
-use Rattle.script_lines.specs.declared.line.DeviceSpec.TheVariants.{Beat as IsBeat, Down as IsDown, Disk as IsDisk, Net as IsNet}
+use Rattle.script_lines.specs.declared.line.DeviceSpec.TheVariants.{Beat as IsBeat, Down as IsDown, Disk as IsDisk, Net as IsNet, Kvp as IsKvp}
 use Rattle.script_lines.specs.declared.asked.Asked.{Asked}
-use Rattle.script_lines.specs.declared.asked.Asked.TheVariants.{Beat, Down, Command, Message}
+use Rattle.script_lines.specs.declared.asked.Asked.TheVariants.{Beat, Down, Command, Message, Pair}
 use Rattle.rndis_msg.specs.declared.rndis.Rndis.TheVariants.{Reset}
+use Rattle.kvp_ic.specs.declared.message.Kvp.TheVariants.{Enum}
 use Rattle.script_lines.specs.declared.offering.Offering.{Offering}
-use Rattle.script_lines.specs.declared.offering.Offering.TheVariants.{Beat as OfBeat, Down as OfDown, Disk as OfDisk, Net as OfNet}
+use Rattle.script_lines.specs.declared.offering.Offering.TheVariants.{Beat as OfBeat, Down as OfDown, Disk as OfDisk, Net as OfNet, Kvp as OfKvp}
 use Rattle.script_lines.specs.declared.said.Said.{Said}
 use Rattle.script_lines.specs.declared.said.Said.TheVariants.{Nothing, Contact, Offer, Bad, Ring, Window, Request, Rescind, Close, Modify, Phase}
 use Rattle.script_text.specs.Forms.{within}
@@ -34,13 +35,15 @@ spec_of OfBeat = IsBeat
 spec_of OfDown = IsDown
 spec_of (OfDisk blocks subs) = IsDisk (unwrap_or blocks 0) (unwrap_or (within 0 3 subs) 0)
 spec_of (OfNet mac station) = IsNet mac station
+spec_of OfKvp = IsKvp
 
--- the request that a line makes, with 0 where a number is out of range, and a reset where a message is
+-- the request that a line makes, with 0 where a number is out of range, a reset where a message is, and the first pair of pool 0 where a request about pairs is
 abbrev pub ask_of : Asked → Ask
 ask_of (Beat seq) = Ic (AskBeat (unwrap_or seq 0))
 ask_of (Down flags) = Ic (AskDown 0 0 (unwrap_or flags 0))
 ask_of (Command ask) = AskDisk (request_of ask)
 ask_of (Message message) = AskNet (unwrap_or message Reset)
+ask_of (Pair request) = AskKvp (unwrap_or request (Enum 0 0))
 
 -- what a line that speaks of this device becomes; one that is passed over becomes none
 abbrev pub what_of : Option ℕ → Said → Option What

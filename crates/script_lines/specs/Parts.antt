@@ -4,14 +4,15 @@ use Rattle.std.specs.List.{flat_map, slice_split, list_any}
 use Rattle.std.specs.Option.{option_map_or}
 use Rattle.std.specs.Str.{bytes_eq}
 use Rattle.contact.specs.declared.kind.DeviceKind.{DeviceKind}
-use Rattle.contact.specs.declared.kind.DeviceKind.TheVariants.{Beat as KindBeat, Down as KindDown, Disk as KindDisk, Net as KindNet}
+use Rattle.contact.specs.declared.kind.DeviceKind.TheVariants.{Beat as KindBeat, Down as KindDown, Disk as KindDisk, Net as KindNet, Kvp as KindKvp}
 use Rattle.util_ic.specs.declared.ic.IcAsk.TheVariants.{Beat as AskBeat, Down as AskDown}
 use Rattle.script_lines.specs.declared.line.Line.{Line}
 use Rattle.script_lines.specs.declared.line.What.{What}
 use Rattle.script_lines.specs.declared.line.Ask.{Ask}
-use Rattle.script_lines.specs.declared.line.Ask.TheVariants.{Ic, Disk as AskDisk, Net as AskNet}
+use Rattle.script_lines.specs.declared.line.Ask.TheVariants.{Ic, Disk as AskDisk, Net as AskNet, Kvp as AskKvp}
 use Rattle.script_lines.specs.declared.line.DeviceSpec.{DeviceSpec}
-use Rattle.script_lines.specs.declared.line.DeviceSpec.TheVariants.{Beat, Down, Disk, Net}
+use Rattle.script_lines.specs.declared.line.DeviceSpec.TheVariants.{Beat, Down, Disk, Net, Kvp}
+use Rattle.script_lines.specs.declared.shape.Shape.{Shape}
 use Rattle.script_lines.specs.Lines.{contact_of, offer_of, sets, said, is_phase, bad_block, ring_pages, open_most, set_as, is_request, is_rescind, is_close, is_modify}
 
 abbrev pub ends_part : Line → Bool
@@ -51,12 +52,22 @@ named_by what = option_map_or (λ o. o.0 ∷ []) (offer_of what) []
 abbrev pub names : List Line → List (List ℕ)
 names lines = flat_map (λ l. named_by l.what) lines
 
--- the kind of a device
+-- what each kind of device is: its kind, its blocks (a disk alone has any), and its channels beside the first one
+abbrev pub shape_of : DeviceSpec → Shape
+shape_of Beat = record { kind = KindBeat; blocks = 0; subs = 0 }
+shape_of Down = record { kind = KindDown; blocks = 0; subs = 0 }
+shape_of (Disk blocks subs) = record { kind = KindDisk; blocks = blocks; subs = subs }
+shape_of (Net mac station) = record { kind = KindNet; blocks = 0; subs = 0 }
+shape_of Kvp = record { kind = KindKvp; blocks = 0; subs = 0 }
+
 abbrev pub kind_of : DeviceSpec → DeviceKind
-kind_of Beat = KindBeat
-kind_of Down = KindDown
-kind_of (Disk blocks subs) = KindDisk
-kind_of (Net mac station) = KindNet
+kind_of spec = (shape_of spec).kind
+
+abbrev pub blocks_of : DeviceSpec → ℕ
+blocks_of spec = (shape_of spec).blocks
+
+abbrev pub subs_of : DeviceSpec → ℕ
+subs_of spec = (shape_of spec).subs
 
 -- the kind of device that is asked this
 abbrev pub kind_asked : Ask → DeviceKind
@@ -64,13 +75,7 @@ kind_asked (Ic (AskBeat seq)) = KindBeat
 kind_asked (Ic (AskDown reason timeout flags)) = KindDown
 kind_asked (AskDisk request) = KindDisk
 kind_asked (AskNet message) = KindNet
-
--- the blocks of a device: a disk alone has any
-abbrev pub blocks_of : DeviceSpec → ℕ
-blocks_of Beat = 0
-blocks_of Down = 0
-blocks_of (Disk blocks subs) = blocks
-blocks_of (Net mac station) = 0
+kind_asked (AskKvp request) = KindKvp
 
 -- the blocks of one of these devices
 abbrev pub blocks_at : ℕ → List DeviceSpec → ℕ
@@ -182,10 +187,7 @@ device_of name lines = position (bytes_eq name) (names lines)
 
 -- the channels of a device
 abbrev pub channels_of : DeviceSpec → ℕ
-channels_of Beat = 1
-channels_of Down = 1
-channels_of (Disk blocks subs) = 1 + subs
-channels_of (Net mac station) = 1
+channels_of spec = 1 + subs_of spec
 
 -- the channels of all devices
 abbrev pub channels : List Line → ℕ

@@ -8,10 +8,11 @@ use Rattle.rndis_msg.specs.declared.rndis.Rndis.TheVariants.{Packet, Query, Set,
 use Rattle.script_lines.specs.declared.asked.Asked.TheVariants.{Beat, Down, Command, Message}
 use Rattle.script_lines.specs.declared.disk_ask.DiskAsk.{DiskAsk}
 use Rattle.script_lines.specs.declared.disk_ask.DiskAsk.TheVariants.{Ready, Inquiry, Capacity, LongCapacity, Flush, Read, Write}
-use Rattle.script_lines.specs.declared.offering.Offering.TheVariants.{Beat as OfBeat, Down as OfDown, Disk as OfDisk, Net as OfNet}
+use Rattle.script_lines.specs.declared.offering.Offering.TheVariants.{Beat as OfBeat, Down as OfDown, Disk as OfDisk, Net as OfNet, Kvp as OfKvp}
 use Rattle.script_lines.specs.declared.said.Said.{Said}
 use Rattle.script_lines.specs.declared.said.Said.TheVariants.{Nothing, Contact, Offer, Bad, Ring, Window, Request, Rescind, Close, Modify, Phase}
 use Rattle.script_text.specs.Words.{words}
+use Rattle.script_lines.specs.PairRows.{pair_row}
 use Rattle.script_text.specs.Forms.{is_name, is_decimal, number_of, in_u64, within, is_byte, byte_of, is_version, version_of, are_bytes, bytes_of, is_address, is_oid, oid_of}
 
 -- NAME
@@ -49,14 +50,15 @@ net_offer (name ∷ mac ∷ station ∷ []) =
     if is_name name && is_address mac && is_address station then Some (Offer name (OfNet (bytes_of mac) (bytes_of station))) else None
 net_offer others = None
 
--- hb NAME, shutdown NAME, or disk or net and what stands behind it, behind offer
+-- hb NAME, shutdown NAME, kvp NAME, or disk or net and what stands behind it, behind offer
 abbrev pub offer_row : List (List ℕ) → Option Said
 offer_row [] = None
 offer_row (kind ∷ others) =
     if bytes_eq kind (codes "hb") then option_map (λ name. Offer name OfBeat) (name_alone others) else
     if bytes_eq kind (codes "shutdown") then option_map (λ name. Offer name OfDown) (name_alone others) else
     if bytes_eq kind (codes "disk") then disk_offer others else
-    if bytes_eq kind (codes "net") then net_offer others else None
+    if bytes_eq kind (codes "net") then net_offer others else
+    if bytes_eq kind (codes "kvp") then option_map (λ name. Offer name OfKvp) (name_alone others) else None
 
 -- NAME LBA, behind bad
 abbrev pub bad_row : List (List ℕ) → Option Said
@@ -131,16 +133,17 @@ abbrev pub frame_row : List (List ℕ) → Option Said
 frame_row (name ∷ frame ∷ []) = if is_name name && are_bytes frame then Some (Request name (Message (frame_said frame))) else None
 frame_row others = None
 
--- what stands behind each key word of a network
+-- what stands behind each key word of a network, or of a key-value service
 abbrev pub net_row : List ℕ → List (List ℕ) → Option Said
 net_row key others =
     if bytes_eq key (codes "query") then query_row others else
     if bytes_eq key (codes "set") then set_row others else
     if bytes_eq key (codes "keep") then plain_message (Keepalive 0) others else
     if bytes_eq key (codes "reset") then plain_message Reset others else
-    if bytes_eq key (codes "frame") then frame_row others else None
+    if bytes_eq key (codes "frame") then frame_row others else
+    if bytes_eq key (codes "kvp") then pair_row others else None
 
--- what stands behind each key word of a disk, or of a network
+-- what stands behind each key word of a disk, or of another device with requests of many forms
 abbrev pub disk_row : List ℕ → List (List ℕ) → Option Said
 disk_row key others =
     if bytes_eq key (codes "bad") then bad_row others else

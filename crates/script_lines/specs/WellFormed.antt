@@ -9,15 +9,16 @@ use Rattle.script_lines.specs.declared.line.Line.{Line}
 use Rattle.script_lines.specs.declared.line.What.{What}
 use Rattle.script_lines.specs.declared.line.What.TheVariants.{Contact as IsContact, Offer as IsOffer, Bad as IsBad, RingSize as IsRingSize, Window as IsWindow, Ask as IsAsk, Rescind as IsRescind, Shut as IsShut, Modify as IsModify, Phase as IsPhase}
 use Rattle.script_lines.specs.declared.line.DeviceSpec.{DeviceSpec}
-use Rattle.script_lines.specs.declared.line.DeviceSpec.TheVariants.{Beat as IsBeat, Down as IsDown, Disk as IsDisk, Net as IsNet}
+use Rattle.script_lines.specs.declared.line.DeviceSpec.TheVariants.{Beat as IsBeat, Down as IsDown, Disk as IsDisk, Net as IsNet, Kvp as IsKvp}
 use Rattle.script_lines.specs.declared.line.Ask.{Ask}
-use Rattle.script_lines.specs.declared.line.Ask.TheVariants.{Ic, Disk as AskDisk, Net as AskNet}
+use Rattle.script_lines.specs.declared.line.Ask.TheVariants.{Ic, Disk as AskDisk, Net as AskNet, Kvp as AskKvp}
 use Rattle.script_lines.specs.declared.asked.Asked.{Asked}
-use Rattle.script_lines.specs.declared.asked.Asked.TheVariants.{Beat, Down, Command, Message}
+use Rattle.script_lines.specs.declared.asked.Asked.TheVariants.{Beat, Down, Command, Message, Pair}
 use Rattle.script_lines.specs.declared.offering.Offering.{Offering}
-use Rattle.script_lines.specs.declared.offering.Offering.TheVariants.{Beat as OfBeat, Down as OfDown, Disk as OfDisk, Net as OfNet}
+use Rattle.script_lines.specs.declared.offering.Offering.TheVariants.{Beat as OfBeat, Down as OfDown, Disk as OfDisk, Net as OfNet, Kvp as OfKvp}
 use Rattle.script_lines.specs.declared.said.Said.{Said}
 use Rattle.script_lines.specs.declared.said.Said.TheVariants.{Nothing, Contact, Offer, Bad, Ring, Window, Request, Rescind, Close, Modify, Phase}
+use Rattle.kvp_ic.specs.Messages.{CanBeAsked}
 use Rattle.script_lines.specs.Lines.{Says, Asks, Rescinds, Shuts, Modifies, said, contact_of, bad_block, set_as}
 use Rattle.script_lines.specs.Requests.{AskInRange, CanBeCarried, IsSent}
 use Rattle.script_lines.specs.Parts.{parts, this_part, offered, offered_by, named_by, asks_in, is_ask, is_settings, rescinds, shuts, modifies, modifies_in, modified_here, rescinded_in, closed_in, channels, channels_of, device_of, kind_of, kind_asked, blocks_at, has_bad}
@@ -28,6 +29,7 @@ IsDevice IsBeat = Unit {0}
 IsDevice IsDown = Unit {0}
 IsDevice (IsDisk blocks subs) = (1 ≤ blocks) × (blocks ≤ 2 ^ 40) × (subs ≤ 3)
 IsDevice (IsNet mac station) = (length mac ≡ 6) × (length station ≡ 6)
+IsDevice IsKvp = Unit {0}
 
 -- the kind of a device that can be rescinded: a disk or a network
 abbrev pub IsRescindable : Option DeviceKind → Type 0
@@ -51,6 +53,7 @@ abbrev pub CanGo : Ask → Type 0
 CanGo (Ic ask) = Unit {0}
 CanGo (AskDisk request) = CanBeCarried request
 CanGo (AskNet message) = IsSent message
+CanGo (AskKvp request) = CanBeAsked request
 
 abbrev pub SayGoes : Says → Type 0
 SayGoes (Asks ask) = CanGo ask
@@ -106,6 +109,7 @@ OfferInRange OfBeat = Unit {0}
 OfferInRange OfDown = Unit {0}
 OfferInRange (OfDisk blocks subs) = IfSome blocks (λ n. (1 ≤ n) × (n ≤ 2 ^ 40))
 OfferInRange (OfNet mac station) = (length mac ≡ 6) × (length station ≡ 6)
+OfferInRange OfKvp = Unit {0}
 
 -- what a line asks is in its ranges, where its values are
 abbrev pub AskedInRange : Asked → Type 0
@@ -113,6 +117,7 @@ AskedInRange (Beat seq) = Unit {0}
 AskedInRange (Down flags) = Unit {0}
 AskedInRange (Command ask) = AskInRange ask
 AskedInRange (Message message) = IfSome message IsSent
+AskedInRange (Pair request) = IfSome request CanBeAsked
 
 -- the values that a line says are in their ranges, where it says any
 abbrev pub InRange : Said → Type 0

@@ -7,7 +7,7 @@ ghost use Rattle.script_lines.specs.Faults.{is_first, is_over, is_now, is_ended_
 ghost use Rattle.script_lines.specs.WellFormed.{IsScript, Fits};
 
 use crate::bad_place::BadPlace;
-use crate::{Ask, DeviceSpec, Line, What};
+use crate::{Ask, DeviceSpec, Line, What, shape_of};
 use contact::Version;
 use indexmap::IndexSet;
 use script_text::{Name, ParseFault};
@@ -390,8 +390,5 @@ pub fn channels_of(spec: DeviceSpec) -> u32
     ensures some { 1 ≤ result }
     ensures most { result ≤ 16 }
 {
-    match spec {
-        DeviceSpec::Beat | DeviceSpec::Down | DeviceSpec::Net { .. } => 1,
-        DeviceSpec::Disk { blocks: _, subs } => 1 + subs,
-    }
+    1 + shape_of(spec).subs
 }

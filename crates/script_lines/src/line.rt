@@ -2,6 +2,7 @@
 ghost use Rattle.std.specs.Prelude.{◌≡◌};
 
 use contact::Version;
+use kvp_ic::Kvp;
 use rndis_msg::Rndis;
 use script_text::Name;
 use scsi_disk::DiskRequest;
@@ -28,6 +29,8 @@ pub enum DeviceSpec {
         /// The station's address.
         station: [u8; 6],
     },
+    /// A key-value service.
+    Kvp,
 }
 
 /// A request to a device.
@@ -39,6 +42,8 @@ pub enum Ask {
     Disk(DiskRequest),
     /// A message for a network's adapter. One that has a request id has 0 there: the packet that carries it gives it its own.
     Net(Rndis),
+    /// A request to a key-value service.
+    Kvp(Kvp),
 }
 
 impl Ask {
@@ -59,6 +64,9 @@ impl Ask {
             }
             Ask::Net(message) => {
                 return Ask::Net(message.again());
+            }
+            Ask::Kvp(request) => {
+                return Ask::Kvp(request.again());
             }
         }
     }

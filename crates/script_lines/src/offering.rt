@@ -21,4 +21,6 @@ pub enum Offering {
         /// The station's address.
         station: [u8; 6],
     },
+    /// A key-value service.
+    Kvp,
 }

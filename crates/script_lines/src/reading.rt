@@ -16,6 +16,7 @@ use crate::row::said_in;
 use crate::said::Said;
 use crate::{Ask, DeviceSpec, Script};
 use contact::Version;
+use kvp_ic::Kvp;
 use rndis_msg::Rndis;
 use script_text::{ParseFault, ScriptFault, Why6, first_line, within};
 use std::alloc::Global;
@@ -115,6 +116,7 @@ fn spec_of(offering: Offering) -> DeviceSpec
             subs: within(0, 3, subs).unwrap_or(0),
         },
         Offering::Net { mac, station } => DeviceSpec::Net { mac, station },
+        Offering::Kvp => DeviceSpec::Kvp,
     }
 }
 
@@ -128,6 +130,7 @@ fn ask_of(asked: Asked) -> Ask
         Asked::Down(flags) => down(flags),
         Asked::Command(ask) => Ask::Disk(request_of(ask)),
         Asked::Message(message) => Ask::Net(message.unwrap_or(Rndis::Reset)),
+        Asked::Pair(request) => Ask::Kvp(request.unwrap_or(Kvp::Enum { pool: 0, index: 0 })),
     }
 }
 

@@ -10,6 +10,7 @@ use crate::disk_ask::DiskAsk;
 use crate::draft::Draft;
 use crate::offering::Offering;
 use crate::said::Said;
+use crate::shape::shape_of;
 use script_text::{Why6, within};
 
 fn unless(holds: bool, why: Why6) -> Option<Why6>
@@ -64,7 +65,9 @@ fn has_room(before: &Draft, offering: Offering) -> bool
     ensures { result ≡ has_room before.now offering }
 {
     match offering {
-        Offering::Beat | Offering::Down | Offering::Net { .. } => before.channels() < 16,
+        Offering::Beat | Offering::Down | Offering::Net { .. } | Offering::Kvp => {
+            before.channels() < 16
+        }
         Offering::Disk {
             blocks: _,
             subs: Some(subs),
@@ -139,6 +142,7 @@ fn takes(asked: &Asked, spec: DeviceSpec) -> bool
         Asked::Down(_) => matches!(spec, DeviceSpec::Down),
         Asked::Command(_) => matches!(spec, DeviceSpec::Disk { .. }),
         Asked::Message(_) => matches!(spec, DeviceSpec::Net { .. }),
+        Asked::Pair(_) => matches!(spec, DeviceSpec::Kvp),
     }
 }
 
@@ -262,7 +266,7 @@ fn offers_in_range(offering: Offering) -> bool
     ensures { result ≡ offers_in_range offering }
 {
     match offering {
-        Offering::Beat | Offering::Down | Offering::Net { .. } => true,
+        Offering::Beat | Offering::Down | Offering::Net { .. } | Offering::Kvp => true,
         Offering::Disk { blocks, subs } => blocks.is_some() && within(0, 3, subs).is_some(),
     }
 }
@@ -272,10 +276,7 @@ fn blocks_at(before: &Draft, device: u32) -> u64
     requires { device < length (offered before.now) }
     ensures { result ≡ blocks_at device (offered before.now) }
 {
-    match before.spec_at(device) {
-        DeviceSpec::Beat | DeviceSpec::Down | DeviceSpec::Net { .. } => 0,
-        DeviceSpec::Disk { blocks, subs: _ } => blocks,
-    }
+    shape_of(before.spec_at(device)).blocks
 }
 
 fn is_block(before: &Draft, device: Option<u32>, lba: Option<u64>) -> bool
@@ -314,6 +315,7 @@ fn asked_in_range(asked: &Asked) -> bool
         Asked::Down(flags) => flags.is_some(),
         Asked::Command(ask) => asks_in_range(*ask),
         Asked::Message(message) => message.is_some(),
+        Asked::Pair(request) => request.is_some(),
     }
 }
 

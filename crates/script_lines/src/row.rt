@@ -12,6 +12,7 @@ use crate::asked::Asked;
 use crate::disk_ask::DiskAsk;
 use crate::message::{frame_of, query_of, set_of};
 use crate::offering::Offering;
+use crate::pair_row::pair_row;
 use crate::said::Said;
 use rndis_msg::Rndis;
 use script_text::{
@@ -131,6 +132,8 @@ fn net_row(key: &[u8], rest: &[u8]) -> Option<Said>
         plain_message(Rndis::Reset, rest)
     } else if key == b"frame".as_slice() {
         frame_row(rest)
+    } else if key == b"kvp".as_slice() {
+        pair_row(rest)
     } else {
         None
     }
@@ -210,6 +213,8 @@ fn offer_row(rest: &[u8]) -> Option<Said>
         disk_offer(rest)
     } else if kind == b"net".as_slice() {
         net_offer(rest)
+    } else if kind == b"kvp".as_slice() {
+        plain_offer(Offering::Kvp, rest)
     } else {
         None
     }

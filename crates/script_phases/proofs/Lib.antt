@@ -1,4 +1,3 @@
 pub mod Dealing
 pub mod Seating
 pub mod Following
-pub mod Saying

@@ -4,7 +4,6 @@ use Rattle.std.specs.Prelude.{slice_get, if◌then◌else◌}
 use Rattle.std.proofs.lemmas.List.Elements.{filter-append}
 use Rattle.std.proofs.lemmas.Bool.Decides.{nat_tests}
 use Rattle.script_lines.specs.declared.line.DeviceSpec.{DeviceSpec}
-use Rattle.script_lines.specs.declared.line.DeviceSpec.TheVariants.{Beat, Down, Disk, Net}
 use Rattle.script_lines.specs.Parts.{channels_of}
 use Rattle.script_phases.specs.Openings.{Opening, subs_of, subs_from, channels_from, opened_from, is_first, firsts, others}
 use Rattle.script_phases.specs.Laws.{AllSeats}
@@ -64,10 +63,7 @@ none_before opened d place next (spec ∷ specs) low =
     elsewhere (opened place) d place next spec _ _ 0 (grind (arith, nat_tests, low)) (none_before opened d (place + 1) (next + subs_of spec) specs (omega (arith, low))) (none_before opened d (place + 1) next specs (omega (arith, low)))
 
 all_of : (spec : DeviceSpec) → 1 + subs_of spec ≡ channels_of spec
-all_of Beat = refl
-all_of Down = refl
-all_of (Disk blocks subs) = refl
-all_of (Net mac station) = refl
+all_of spec = refl
 
 at : (opened : ℕ → Bool) (d i place next : ℕ) (specs : List DeviceSpec) (spec : DeviceSpec) → d ≡ place + i → slice_get specs i ≡ Some spec → opened d ≡ true → seats d (opened_from opened place next specs) ≡ channels_of spec
 at opened d i place next [] spec is there on = absurd (cc)

@@ -1,9 +1,9 @@
 -- The phases of a script, and the channels that each of them opens.
 use Rattle.std.specs.Prelude.{ℕ, zero, suc, ◌+◌, ◌==◌, Bool, not, ◌&&◌, ◌||◌, is_some, List, [], ◌∷◌, ◌++◌, length, filter, slice_get, if◌then◌else◌}
 use Rattle.script_lines.specs.declared.line.DeviceSpec.{DeviceSpec}
-use Rattle.script_lines.specs.declared.line.DeviceSpec.TheVariants.{Beat, Down, Disk, Net}
 use Rattle.script_lines.specs.declared.line.Line.{Line}
 use Rattle.script_lines.specs.Parts.{parts, offered}
+pub use Rattle.script_lines.specs.Parts.{subs_of}
 use Rattle.script_phases.specs.Says.{said_to, is_rescinded, is_shut}
 use Rattle.script_phases.specs.Agreed.{agreed_in}
 
@@ -21,13 +21,6 @@ pub record Phase : Type 0 where
   pub earlier : List Line
   pub part : List Line
   pub opened : List Opening
-
--- how many channels a device has beside the first one
-abbrev pub subs_of : DeviceSpec → ℕ
-subs_of Beat = 0
-subs_of Down = 0
-subs_of (Disk blocks subs) = subs
-subs_of (Net mac station) = 0
 
 -- an earlier phase rescinded the device, or closed it
 abbrev pub is_ended : ℕ → List Line → Bool

@@ -85,3 +85,48 @@ fn no_row_begins_so(rt: HostRuntime) {
         b"script line 1: Form\n    beet hb 41\n    ^^^^\n",
     );
 }
+
+#[test]
+fn a_line_of_pairs_is_wrong(rt: HostRuntime) {
+    says(
+        &rt,
+        b"offer kvp k\nkvp k set 5 color blue\n",
+        true,
+        b"script line 2: Range\n    kvp k set 5 color blue\n              ^\n    kvp NAME set POOL KEY VALUE: POOL is 0 to 4, KEY 1 to 255 characters, VALUE 1 to 1023\n",
+    );
+    says(
+        &rt,
+        b"offer kvp k\nkvp k enum 0 4294967296\n",
+        true,
+        b"script line 2: Range\n    kvp k enum 0 4294967296\n                 ^^^^^^^^^^\n    kvp NAME enum POOL INDEX: POOL is 0 to 4, INDEX 0 to 4294967295\n",
+    );
+    says(
+        &rt,
+        b"offer kvp k\nkvp k get 0\n",
+        true,
+        b"script line 2: Form\n    kvp k get 0\n               ^\n    kvp NAME get POOL KEY: POOL is 0 to 4, KEY 1 to 255 characters\n",
+    );
+    says(
+        &rt,
+        b"offer kvp k\nkvp k put 0 a\n",
+        true,
+        b"script line 2: Form\n    kvp k put 0 a\n          ^^^\n    kvp NAME set POOL KEY VALUE, kvp NAME get POOL KEY, kvp NAME del POOL KEY or kvp NAME enum POOL INDEX\n",
+    );
+    says(
+        &rt,
+        b"offer hb k\nkvp k del 0 a\n",
+        true,
+        b"script line 2: UnknownName\n    kvp k del 0 a\n        ^\n    kvp NAME del POOL KEY: POOL is 0 to 4, KEY 1 to 255 characters\n",
+    );
+}
+
+// A count of up to 8 blocks is none that is out of its range.
+#[test]
+fn the_place_is_out_of_range(rt: HostRuntime) {
+    says(
+        &rt,
+        b"offer disk d0 64 0\nread d0 18446744073709551616 8\n",
+        true,
+        b"script line 2: Range\n    read d0 18446744073709551616 8\n            ^^^^^^^^^^^^^^^^^^^^\n    read NAME LBA COUNT: LBA is 0 to 18446744073709551615, COUNT 0 to 8\n",
+    );
+}

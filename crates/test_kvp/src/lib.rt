@@ -2,6 +2,8 @@
 #![tactic(auto)]
 
 #[cfg(test)]
+mod channel_tests;
+#[cfg(test)]
 mod check;
 #[cfg(test)]
 mod device_tests;

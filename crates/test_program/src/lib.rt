@@ -16,6 +16,8 @@ mod modify_tests;
 #[cfg(test)]
 mod network_tests;
 #[cfg(test)]
+mod pair_tests;
+#[cfg(test)]
 mod rescind_tests;
 #[cfg(test)]
 mod sock_tests;

@@ -10,6 +10,8 @@ mod disk_script_tests;
 #[cfg(test)]
 mod net_script_tests;
 #[cfg(test)]
+mod pair_script_tests;
+#[cfg(test)]
 mod rescind_script_tests;
 #[cfg(test)]
 mod script_load_tests;

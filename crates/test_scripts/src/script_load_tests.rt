@@ -2,7 +2,7 @@
 use crate::bus_script_tests::{check_line, check_offer, script_of};
 use crate::check::check;
 use bus_script::{DeviceSpec, LineResult, Reply};
-use script_load::{load_line, load_script};
+use script_generator::{load_line, load_script};
 use scsi_disk::{Chunk, DiskReply};
 
 const LOAD: &[u8] =

@@ -3,7 +3,7 @@ use Rattle.std.proofs.Common.{◌≡◌, ℕ, ◌+◌, ◌%◌, ◌^◌, ◌<◌
 use Rattle.std.specs.Prelude.{◌⊎◌}
 use Rattle.std.proofs.lemmas.Bool.Decides.{nat_tests}
 use Rattle.contact.specs.declared.kind.DeviceKind.{DeviceKind}
-use Rattle.contact.specs.declared.kind.DeviceKind.TheVariants.{Beat as KindBeat, Down as KindDown, Disk, Net}
+use Rattle.contact.specs.declared.kind.DeviceKind.TheVariants.{Beat as KindBeat, Down as KindDown, Disk, Net, Kvp}
 use Rattle.util_ic.specs.declared.ic.IcAsk.{IcAsk}
 use Rattle.util_ic.specs.declared.ic.IcAsk.TheVariants.{Beat, Down}
 use Rattle.util_ic.specs.declared.version.Version.{Version}
@@ -84,6 +84,7 @@ down_only KindBeat h = cc
 down_only KindDown h = refl
 down_only Disk h = cc
 down_only Net h = cc
+down_only Kvp h = cc
 
 status_fits : (small : Bool) → cond small 0 fail < 2 ^ 32
 status_fits true = omega arith

@@ -14,7 +14,7 @@ use Rattle.util_ic.specs.Answers.{utility_answer}
 use Rattle.util_ic.specs.Packets.{ask_packet, negotiate_packet, served_packet}
 use Rattle.util_ic.proofs.AskLaws.{FitsAsk, beat_kinds, beat_rows, beat_has, down_kinds, down_rows, down_has}
 
-abbrev BytesOnly : List ℕ → Type 0
+abbrev pub BytesOnly : List ℕ → Type 0
 BytesOnly xs = AllByRecursion (λ b. b < 256) xs
 
 of_number : (n v : ℕ) → BytesOnly (bytes_of n v)
@@ -22,11 +22,12 @@ unfolding bytes_of
 of_number zero v = tt
 of_number (suc n) v = (omega arith, of_number n (v / 256))
 
-of_both : (xs ys : List ℕ) → BytesOnly xs → BytesOnly ys → BytesOnly (xs ++ ys)
+pub of_both : (xs ys : List ℕ) → BytesOnly xs → BytesOnly ys → BytesOnly (xs ++ ys)
 of_both [] ys h k = k
 of_both (x ∷ xs) ys h k = (h.0, of_both xs ys h.1 k)
 
-of_rows : (ks : List RowKind) (rs : List Row) (front : List ℕ) → AllHave ks rs → BytesOnly front → BytesOnly (spelled_after front rs)
+-- the bytes that rows spell
+pub of_rows : (ks : List RowKind) (rs : List Row) (front : List ℕ) → AllHave ks rs → BytesOnly front → BytesOnly (spelled_after front rs)
 of_rows [] [] front h k = k
 of_rows [] (r ∷ rs) front h k = absurd h
 of_rows (l ∷ ks) [] front h k = absurd h

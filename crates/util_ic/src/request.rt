@@ -128,7 +128,7 @@ pub fn ask(kind: &IcAsk, out: &mut [u8]) -> usize
 
 /// Writes the negotiate message at the front of `out`, and answers its length, 52 bytes. The rest of `out` stays.
 ///
-/// It offers frame versions 3.0 and 1.0 and, on both kinds of channel, message versions 3.0 and 1.0.
+/// It offers frame versions 3.0 and 1.0 and, on every kind of channel, message versions 3.0 and 1.0.
 pub fn negotiate(_kind: DeviceKind, out: &mut [u8]) -> usize
     requires room { 2112 ≤ length out.old }
     ensures count { result ≡ length negotiate_bytes }

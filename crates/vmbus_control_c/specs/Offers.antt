@@ -4,7 +4,7 @@ use Rattle.vmbus_msg.specs.declared.msg.Msg.{Msg}
 use Rattle.vmbus_msg.specs.declared.msg.Msg.TheVariants.{OfferChannel}
 use Rattle.contact.specs.Classes.{class_id}
 use Rattle.contact.specs.declared.kind.Kind.{Kind}
-use Rattle.contact.specs.declared.kind.Kind.TheVariants.{Beat, Down, Disk, Net, Sock}
+use Rattle.contact.specs.declared.kind.Kind.TheVariants.{Beat, Down, Disk, Net, Kvp, Sock}
 use Rattle.contact.specs.declared.channel_offer.Offered.{Offered}
 use Rattle.vmbus_control_c.specs.declared.offers.VmbusOffer.{VmbusOffer}
 
@@ -15,6 +15,7 @@ kind_number Down = 2
 kind_number Disk = 3
 kind_number Net = 4
 kind_number (Sock port) = 5
+kind_number Kvp = 6
 
 -- the port of a kind, which others than sockets' don't have
 abbrev pub port_of : Kind → ℕ
@@ -22,6 +23,7 @@ port_of Beat = 0
 port_of Down = 0
 port_of Disk = 0
 port_of Net = 0
+port_of Kvp = 0
 port_of (Sock port) = port
 
 -- the numbers of an offer
@@ -40,6 +42,7 @@ kind_of number port =
     if number == 3 then Some Disk else
     if number == 4 then Some Net else
     if number == 5 then Some (Sock port) else
+    if number == 6 then Some Kvp else
     None
 
 -- a message is an offer with the class id of a kind

@@ -17,7 +17,7 @@ use vmbus_msg::{Msg, decode, encode};
 pub struct VmbusOffer {
     /// The channel's number.
     pub relid: u32,
-    /// What is at its other end: 1 the heartbeat service, 2 the shutdown service, 3 a SCSI disk, 4 a network device, 5 a socket's service.
+    /// What is at its other end: 1 the heartbeat service, 2 the shutdown service, 3 a SCSI disk, 4 a network device, 5 a socket's service, 6 the key-value service.
     pub kind: u32,
     /// The port at which a socket's service listens; of other kinds 0.
     pub port: u32,
@@ -35,6 +35,7 @@ fn kind_number(kind: Kind) -> u32
         Kind::Disk => 3,
         Kind::Net => 4,
         Kind::Sock { .. } => 5,
+        Kind::Kvp => 6,
     }
 }
 
@@ -70,6 +71,7 @@ fn kind_of(number: u32, port: u32) -> Option<Kind>
         3 => Some(Kind::Disk),
         4 => Some(Kind::Net),
         5 => Some(Kind::Sock { port }),
+        6 => Some(Kind::Kvp),
         _ => None,
     }
 }

@@ -12,8 +12,8 @@ use Rattle.control_model.specs.Plan.{IsPlan, part_after}
 use Rattle.control_model.specs.Openings.{plan_of}
 use Rattle.control_model.proofs.ScriptLaws.{phases_are}
 use Rattle.control_model.specs.Guest.{new_guest}
-use Rattle.control_run.specs.declared.path.ControlPath.{ControlPath}
-use Rattle.control_run.specs.Path.{Rests, RanPart, IsSamePath}
+use Rattle.control_path.specs.declared.path.ControlPath.{ControlPath}
+use Rattle.control_path.specs.Path.{Rests, RanPart, IsSamePath}
 use Rattle.vmbus_main.specs.Between.{part_at, IsBetween}
 
 some_of : {A : Type 0} (b : Bool) (x y : A) → (if b then Some x else Some y) ≡ Some (if b then x else y)

@@ -9,8 +9,8 @@ use Rattle.vmbus_msg_text.specs.Output.{decode_output}
 use Rattle.trace_lines.specs.Traces.{trace_of}
 use Rattle.hostile_lines.specs.Inputs.{hostile_of}
 use Rattle.hostile_run.specs.Run.{IsHostileOutput}
-use Rattle.script_load.specs.Load.{load_lines}
-use Rattle.script_load.specs.Counts.{load_output}
+use Rattle.script_generator.specs.Load.{load_lines}
+use Rattle.script_generator.specs.Counts.{load_output}
 use Rattle.bus_model.specs.declared.channel_run.ChannelRun.{ChannelRun}
 use Rattle.device_kinds.specs.declared.history.DeviceHistory.{DeviceHistory}
 use Rattle.bus_model.specs.Run.{IsBusRun}

@@ -7,8 +7,8 @@ use Rattle.bus_run.specs.declared.runner.Runner.{Runner}
 use Rattle.bus_run.specs.Whole.{RunsSoFar}
 use Rattle.control_model.specs.Plan.{BusPlan, part_after}
 use Rattle.control_model.specs.Openings.{plan_of}
-use Rattle.control_run.specs.declared.path.ControlPath.{ControlPath}
-use Rattle.control_run.specs.Path.{Rests, IsSamePath}
+use Rattle.control_path.specs.declared.path.ControlPath.{ControlPath}
+use Rattle.control_path.specs.Path.{Rests, IsSamePath}
 
 -- what the controls do once so many phases have run: the next phase starts, or it is the farewell
 abbrev pub part_at : BusPlan → ℕ → Part

@@ -13,7 +13,7 @@ use crate::trace::trace_input;
 use bus_model::{ChannelRun, DeviceHistory};
 use bus_script::{ParseFault, parse, report};
 use io_edge::Gate;
-use script_load::{load_line, load_script};
+use script_generator::{load_line, load_script};
 use std::alloc::{AllocError, Global};
 use std::sync::Wait;
 use std::thread::Threads;

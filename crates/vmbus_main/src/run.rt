@@ -9,7 +9,7 @@ ghost use Rattle.bus_run.specs.Whole.{RunsSoFar};
 ghost use Rattle.vmbus_main.specs.Between.{IsBetween};
 ghost use Rattle.control_model.specs.Guest.{new_guest};
 ghost use Rattle.control_model.specs.Openings.{plan_of};
-ghost use Rattle.control_run.specs.Path.{Rests};
+ghost use Rattle.control_path.specs.Path.{Rests};
 ghost use Rattle.vmbus_main.specs.Controls.{AreControls};
 ghost use Rattle.vmbus_main.specs.Round.{StoodRound};
 
@@ -17,7 +17,7 @@ use crate::outcome::Controls;
 use bus_run::{Runner, ScriptRun};
 use bus_script::Script;
 use contact::Part;
-use control_run::ControlPath;
+use control_path::ControlPath;
 use io_edge::Gate;
 use mail_box::ClosedQueue;
 use std::alloc::{AllocError, Global};

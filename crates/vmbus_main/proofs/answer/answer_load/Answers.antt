@@ -6,8 +6,8 @@ use Rattle.std.proofs.lemmas.List.Sums.{count_by-le-length}
 use Rattle.script_lines.specs.WellFormed.{IsScript}
 use Rattle.bus_script.specs.Report.{prints}
 use Rattle.bus_model.specs.Run.{IsBusRun}
-use Rattle.script_load.specs.Load.{load_lines}
-use Rattle.script_load.specs.Counts.{load_output}
+use Rattle.script_generator.specs.Load.{load_lines}
+use Rattle.script_generator.specs.Counts.{load_output}
 use Rattle.vmbus_main.specs.Controls.{HasControls}
 use Rattle.vmbus_main.proofs.answer.answer_load.Goals as goal
 

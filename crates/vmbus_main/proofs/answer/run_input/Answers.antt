@@ -1,9 +1,9 @@
-use Rattle.std.proofs.Common.{◌∙◌, ◌≤◌, ◌+◌, ◌*◌, List, length, ap, sym, subst, arith}
+use Rattle.std.proofs.Common.{◌∙◌, ◌≤◌, ◌+◌, List, length, ap, sym, subst, arith}
 use Rattle.bus_model.specs.Run.{IsBusRun}
 use Rattle.bus_model.specs.declared.channel_run.ChannelRun.{ChannelRun}
 use Rattle.device_kinds.specs.declared.history.DeviceHistory.{DeviceHistory}
 use Rattle.bus_script.specs.declared.outcome.LineResult.{LineResult}
-use Rattle.bus_script.specs.Report.{report_of, runs_back}
+use Rattle.bus_script.specs.Report.{report_of, room_back}
 use Rattle.script_lines.specs.WellFormed.{IsScript}
 use Rattle.bus_report_bound.proofs.FewBack.{report_fits_lem}
 use Rattle.vmbus_main.proofs.answer.run_input.Goals as goal
@@ -18,7 +18,7 @@ returns-in-Ok-report g c =
     let run = subst (λ (z : List ChannelRun × List DeviceHistory × List LineResult). IsBusRun lines z.0 z.1 z.2)
     (λ i. ((sym lists.ensures.settled i).items, (sym lists.ensures.histories i).items, (sym lists.ensures.results i).items)) c.in-Ok.ensures.run in
     let fits = report_fits_lem c.args.input.now lines lists.result.0.items lists.result.1.items lists.result.2.items reads c.requires right run in
-    let has_room = subst (λ rs. 12000000 + 24 * runs_back rs ≤ 67108864) (sym c.deref.ensures.value) fits in
+    let has_room = subst (λ rs. 12000000 + room_back rs ≤ 67108864) (sym c.deref.ensures.value) fits in
     let short : length c.in-Ok-report.text.items ≤ 67108864 = omega (arith, c.in-Ok-report.ensures.short, has_room) in (
       record {
         lines = lines;
