@@ -1,5 +1,5 @@
 /* The time of a data page by plans, there and back, both ends in one thread: stored, lent by a request, taken and loaded, stored again, given back by a completion, taken and loaded. 8,001 rounds of
-   256 pages. Build it with the static libraries of page_plan_c and ring_plan_c: cc -O2 -I examples/c bench/pages.c crates/page_plan_c/out/libpage_plan_c.a crates/ring_plan_c/out/libring_plan_c.a */
+   256 pages. Build it with the static libraries of page_call_plan_c and ring_call_plan_c: cc -O2 -I examples/c bench/pages.c crates/page_call_plan_c/out/libpage_call_plan_c.a crates/ring_call_plan_c/out/libring_call_plan_c.a */
 #define _GNU_SOURCE
 #include <inttypes.h>
 #include <stdio.h>

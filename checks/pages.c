@@ -1,4 +1,4 @@
-/* The calls of page_plan_c beside a plain model of the rule of pages, and on any numbers. usage: pages CALLS SEED. The model keeps counts of all that was sent and taken, of each id, and who has
+/* The calls of page_call_plan_c beside a plain model of the rule of pages, and on any numbers. usage: pages CALLS SEED. The model keeps counts of all that was sent and taken, of each id, and who has
    each page; the packets are its own, so it knows what they lend. Two ends send each other packets by the calls; now and then a packet comes that no peer of right mind sends. */
 #include <inttypes.h>
 #include <stdio.h>

@@ -67,7 +67,7 @@ build_turns() {
     program=$1 into=$2
     shift 2
     cc -O2 -Wno-address-of-packed-member -pthread -I "$into" -I "$top/checks/foreign" -I "$top/examples/c" -o "$into/$program" "$top/checks/foreign/$program.c" "$@" \
-        "$top/crates/ring_plan_c/out/libring_plan_c.a"
+        "$top/crates/ring_call_plan_c/out/libring_call_plan_c.a"
 }
 
 # The check over the ring code of the Linux source tree $1 into the directory $2, with more words for cc.
@@ -76,5 +76,5 @@ build_rings() {
     shift 2
     build_linux "$tree" "$into" || return 1
     cc -O2 -Wall -Wextra -pthread -I "$into" -I "$top/checks/foreign" -I "$top/examples/c" "$@" -o "$into/rings" "$top/checks/foreign/rings.c" "$into/ring_buffer.o" \
-        "$top/crates/ring_plan_c/out/libring_plan_c.a"
+        "$top/crates/ring_call_plan_c/out/libring_call_plan_c.a"
 }

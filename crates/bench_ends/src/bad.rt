@@ -1,7 +1,7 @@
 //! A peer whose write index is in no form: the end stops.
 
+use bench_end_loops::{BadSeat, a_call};
 use ring_core::{Bad, End, Room, Side, TakeRefusal, may_take};
-use ring_port::{BadSeat, a_call};
 use std::alloc::{AllocError, Global};
 use std::io;
 use std::rt::Runtime;

@@ -11,9 +11,9 @@
 
 mod bad;
 
-use end_port::{EndPort, roomy};
-use ring_port::{Part, Wanted, across, words};
-use ring_times::tell;
+use bench_end_adapter::{EndPort, roomy};
+use bench_end_loops::{Part, Wanted, across, words};
+use bench_times::tell;
 use std::alloc::Global;
 use std::rt::Runtime;
 use std::sync::Wait;

@@ -3,7 +3,7 @@ use Rattle.std.proofs.Common.{ℕ}
 use Rattle.hostile_lines.specs.declared.command.Command.{Command}
 use Rattle.hostile_lines.specs.declared.command.Command.TheVariants.{Call, Show, Table, Accept, Complete, Gpadl, Packet, Vstor}
 use Rattle.hostile_lines.specs.Ranges.{IsCommandIn}
-use Rattle.hostile_parts.specs.Parts.{IsPartIn}
+use Rattle.hostile_decoders.specs.Parts.{IsPartIn}
 
 pub part_in : (d : ℕ) (c : Command) → IsCommandIn d c → IsPartIn c
 part_in d (Call c) h = tt

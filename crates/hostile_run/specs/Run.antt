@@ -16,8 +16,8 @@ use Rattle.hostile_lines.specs.declared.command.CommandLine.{CommandLine}
 use Rattle.hostile_lines.specs.declared.command.Put.{Put}
 use Rattle.hostile_lines.specs.Inputs.{Input, size_of, hostile_of}
 use Rattle.hostile_lines.specs.StepOrder.{IsInStepOrder}
-use Rattle.hostile_end.specs.Calls.{new_guest, comes_of, Leads, said_of}
-use Rattle.hostile_parts.specs.Parts.{Held, Says}
+use Rattle.hostile_honest_end.specs.Calls.{new_guest, comes_of, Leads, said_of}
+use Rattle.hostile_decoders.specs.Parts.{Held, Says}
 
 -- where an input stands between two of its lines: the end with its memory, and the parts beside it
 pub record Stand : Type 0 where

@@ -4,9 +4,9 @@ ghost use Rattle.std.specs.Fmt.{decimal};
 ghost use Rattle.hostile_lines.specs.Ranges.{IsCommandIn};
 ghost use Rattle.hostile_run.specs.Run.{SaysCommand, line_text};
 
-use hostile_end::TestedEnd;
+use hostile_decoders::Parts;
+use hostile_honest_end::TestedEnd;
 use hostile_lines::{Command, CommandLine};
-use hostile_parts::Parts;
 use line_words::hex_16;
 use script_text::push_decimal;
 use std::alloc::{AllocError, Global};

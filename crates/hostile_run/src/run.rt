@@ -7,9 +7,9 @@ ghost use Rattle.hostile_run.specs.Run.{Stand, SaysLines, opening_stand, end_tex
 
 use crate::bench::Bench;
 use crate::puts::put_all;
-use hostile_end::TestedEnd;
+use hostile_decoders::Parts;
+use hostile_honest_end::TestedEnd;
 use hostile_lines::{CommandLine, Hostile, in_step_order, parse_hostile};
-use hostile_parts::Parts;
 use ring_core::{Change, ToldMem};
 use script_text::{ParseFault, push_decimal};
 use std::alloc::{AllocError, Global};

@@ -77,5 +77,6 @@ impl<const N: usize> Held<N> {
 fn are_bytes(bytes: &[u8])
     ensures { AllByRecursion (λ b. b < 256) bytes.now }
 {
+    // For the proof: the numbers of a slice that is read are known to fit their type.
     let _len = bytes.len();
 }

@@ -17,11 +17,11 @@ use Rattle.ring_machine.specs.Places.{out_of}
 use Rattle.ring_machine.specs.States.{afters, copied_after, copied_at, got_after, pages_after}
 use Rattle.ring_machine.specs.Steps.{fed, is_busy_at, next_at}
 use Rattle.ring_pair_laws.proofs.Sides.{fed_side}
-use Rattle.ring_plan.specs.declared.end.SendPlan.{SendPlan}
-use Rattle.ring_plan.proofs.Parts.{true_is}
-use Rattle.ring_plan_laws.specs.Accesses.{Access, AreStepsFrom, answers, loaded, stores_after}
-use Rattle.ring_plan_laws.specs.Whole.{raise_after, send_stores}
-use Rattle.ring_plan_laws.proofs.Walks.{busy_by}
+use Rattle.ring_call_plan.specs.declared.end.SendPlan.{SendPlan}
+use Rattle.ring_call_plan.proofs.Parts.{true_is}
+use Rattle.ring_call_plan_laws.specs.Accesses.{Access, AreStepsFrom, answers, loaded, stores_after}
+use Rattle.ring_call_plan_laws.specs.Whole.{raise_after, send_stores}
+use Rattle.ring_call_plan_laws.proofs.Walks.{busy_by}
 
 -- the step stores a write index, and so sends a packet; or it loads a cell
 abbrev commits : Option Op → Bool

@@ -9,14 +9,14 @@ use Rattle.page_table.specs.Table.{first_owners}
 use Rattle.ring_machine.specs.Steps.{machine_new}
 use Rattle.ring_core.specs.Pages.{first_kept}
 use Rattle.ring_seat.specs.Whole.{new_paged}
-use Rattle.ring_plan.specs.declared.end.PlanEnd.{PlanEnd as RingEnd}
-use Rattle.ring_plan.specs.Shown.{Shows as RingShows}
-use Rattle.page_plan.specs.declared.slot.PageSlot.{PageSlot}
-use Rattle.page_plan.specs.Ends.{new_end, new_slots, no_requests}
-use Rattle.page_plan.specs.Ids.{ids_in}
-use Rattle.page_plan.specs.Shown.{Shows}
-use Rattle.page_plan.specs.Slots.{away, has, owner_of, owners_of}
-use Rattle.page_plan.proofs.Fitting.{new_fit}
+use Rattle.ring_call_plan.specs.declared.end.PlanEnd.{PlanEnd as RingEnd}
+use Rattle.ring_call_plan.specs.Shown.{Shows as RingShows}
+use Rattle.page_call_plan.specs.declared.slot.PageSlot.{PageSlot}
+use Rattle.page_call_plan.specs.Ends.{new_end, new_slots, no_requests}
+use Rattle.page_call_plan.specs.Ids.{ids_in}
+use Rattle.page_call_plan.specs.Shown.{Shows}
+use Rattle.page_call_plan.specs.Slots.{away, has, owner_of, owners_of}
+use Rattle.page_call_plan.proofs.Fitting.{new_fit}
 use Rattle.page_access_laws.specs.Calls.{IsExactIn, IsShown, is_host, new_by}
 
 by_test : {P : Type 0} (b : Bool) → (b ≡ true → P) → (b ≡ false → P) → P

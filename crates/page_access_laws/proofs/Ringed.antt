@@ -16,32 +16,32 @@ use Rattle.ring_machine.specs.declared.state.EndState.{EndState}
 use Rattle.ring_machine.specs.Places.{cell_of, in_of, is_index, len8_of, offset8_of, out_of, peer_of}
 use Rattle.ring_machine.specs.States.{after, afters, entered, Begins}
 use Rattle.ring_machine.specs.Steps.{is_busy_at, next_of, arm_begun, send_begun, take_begun}
-use Rattle.ring_plan.specs.declared.end.PlanEnd.{PlanEnd as RingEnd}
-use Rattle.ring_plan.specs.Answers.{found_work, found_work_room, woke, woke_room}
-use Rattle.ring_plan.specs.Numbers.{armed_says, arm_end, begin_says, can_arm, commit_end, commit_index, given_says, has_length, has_offset, has_room, head_says, is_at, is_formed, polled_says, send_end, send_plan_of, send_says, sent_says, take_at, take_end, take_plan_of, take_says}
-use Rattle.ring_plan.specs.Numbers.{sent_end as ring_sent_end}
-use Rattle.ring_plan.specs.Shown.{feds}
-use Rattle.ring_plan.specs.Shown.{Shows as RingShows}
-use Rattle.ring_plan.proofs.Parts.{asleep_at, state_is, true_is}
-use Rattle.ring_plan.proofs.PlanLaws.{feeds_state}
-use Rattle.ring_plan_laws.specs.Accesses.{Access, AreStepsFrom, answers, loaded, loads_after, made}
-use Rattle.ring_plan_laws.specs.Whole.{PlanCall, SendCall, TakeCall, CommitCall, ArmCall, PollCall, MarkCall, IsHeard, accesses, answer_of, arm_looks, arm_stores, begins_as, begun_by, end_of, packet_by, raise_after, send_stores, wakes_after}
-use Rattle.ring_plan_laws.proofs.Walks.{Walk, steps_from}
-use Rattle.ring_plan_laws.proofs.Sending.{send_walk}
-use Rattle.ring_plan_laws.proofs.Taking.{take_walk}
-use Rattle.ring_plan_laws.proofs.Committing.{commit_walk, mark_walk}
-use Rattle.ring_plan_laws.proofs.Sleeping.{arm_walk}
-use Rattle.ring_plan_laws.proofs.Polling.{poll_walk}
-use Rattle.page_plan.specs.declared.end.PageEnd.{PageEnd}
-use Rattle.page_plan.specs.Answers.{page_due, planned, took}
-use Rattle.page_plan.specs.Causes.{AllFit, TookAnswer, NoPage, PageCame}
-use Rattle.page_plan.specs.Ends.{asks_took, end_at, end_due, took_says}
-use Rattle.page_plan.specs.Shown.{IsExact, Shows, part_of}
-use Rattle.page_plan.specs.Slots.{is_packet, part_took}
-use Rattle.page_plan.proofs.Causing.{took_answers}
-use Rattle.page_plan.proofs.Fitting.{sent_fit, took_fit}
-use Rattle.page_plan.proofs.Showing.{call_due, call_took, ids_due, ids_took, sends_exact, sends_show, takes_exact, takes_open, takes_show}
-use Rattle.page_plan_laws.proofs.Calls.{begins_arm, begins_commit, begins_mark, begins_send, begins_take}
+use Rattle.ring_call_plan.specs.declared.end.PlanEnd.{PlanEnd as RingEnd}
+use Rattle.ring_call_plan.specs.Answers.{found_work, found_work_room, woke, woke_room}
+use Rattle.ring_call_plan.specs.Numbers.{armed_says, arm_end, begin_says, can_arm, commit_end, commit_index, given_says, has_length, has_offset, has_room, head_says, is_at, is_formed, polled_says, send_end, send_plan_of, send_says, sent_says, take_at, take_end, take_plan_of, take_says}
+use Rattle.ring_call_plan.specs.Numbers.{sent_end as ring_sent_end}
+use Rattle.ring_call_plan.specs.Shown.{feds}
+use Rattle.ring_call_plan.specs.Shown.{Shows as RingShows}
+use Rattle.ring_call_plan.proofs.Parts.{asleep_at, state_is, true_is}
+use Rattle.ring_call_plan.proofs.PlanLaws.{feeds_state}
+use Rattle.ring_call_plan_laws.specs.Accesses.{Access, AreStepsFrom, answers, loaded, loads_after, made}
+use Rattle.ring_call_plan_laws.specs.Whole.{PlanCall, SendCall, TakeCall, CommitCall, ArmCall, PollCall, MarkCall, IsHeard, accesses, answer_of, arm_looks, arm_stores, begins_as, begun_by, end_of, packet_by, raise_after, send_stores, wakes_after}
+use Rattle.ring_call_plan_laws.proofs.Walks.{Walk, steps_from}
+use Rattle.ring_call_plan_laws.proofs.Sending.{send_walk}
+use Rattle.ring_call_plan_laws.proofs.Taking.{take_walk}
+use Rattle.ring_call_plan_laws.proofs.Committing.{commit_walk, mark_walk}
+use Rattle.ring_call_plan_laws.proofs.Sleeping.{arm_walk}
+use Rattle.ring_call_plan_laws.proofs.Polling.{poll_walk}
+use Rattle.page_call_plan.specs.declared.end.PageEnd.{PageEnd}
+use Rattle.page_call_plan.specs.Answers.{page_due, planned, took}
+use Rattle.page_call_plan.specs.Causes.{AllFit, TookAnswer, NoPage, PageCame}
+use Rattle.page_call_plan.specs.Ends.{asks_took, end_at, end_due, took_says}
+use Rattle.page_call_plan.specs.Shown.{IsExact, Shows, part_of}
+use Rattle.page_call_plan.specs.Slots.{is_packet, part_took}
+use Rattle.page_call_plan.proofs.Causing.{took_answers}
+use Rattle.page_call_plan.proofs.Fitting.{sent_fit, took_fit}
+use Rattle.page_call_plan.proofs.Showing.{call_due, call_took, ids_due, ids_took, sends_exact, sends_show, takes_exact, takes_open, takes_show}
+use Rattle.page_call_plan_laws.proofs.Calls.{begins_arm, begins_commit, begins_mark, begins_send, begins_take}
 use Rattle.page_access_laws.specs.Calls.{IsExactIn, BacksAsked, PagedEnd, IsShown, RingCall, PagesLet, IsPagedCall, AreAllowed, after_all, of_ring, ring_left, sent_end, taken_of, took_end, with_ring}
 use Rattle.page_access_laws.proofs.Made.{Makes, clear_after, makes, send_makes, sent_call, side_after, took_call}
 use Rattle.page_access_laws.proofs.Taken.{first_same, head_same, head_took, loads_on_is}

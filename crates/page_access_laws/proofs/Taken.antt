@@ -11,13 +11,13 @@ use Rattle.ring_machine.specs.declared.state.EndState.{EndState}
 use Rattle.ring_machine.specs.Places.{ahead, cell_of, is_index, len8_of, low, offset8_of, used}
 use Rattle.ring_machine.specs.States.{after, afters, copied_after, entered, got_after, pages_after}
 use Rattle.ring_machine.specs.Steps.{breaks, ends, fed, take_begun}
-use Rattle.ring_plan.specs.declared.end.PlanEnd.{PlanEnd}
-use Rattle.ring_plan.specs.Numbers.{head_end, head_planned, head_says, take_at, take_end, take_plan_of, take_says}
-use Rattle.ring_plan.specs.Plans.{TakeBegun, TakeEnded, said}
-use Rattle.ring_plan.specs.Shown.{Shows}
-use Rattle.ring_plan.proofs.Parts.{apart, false_is, true_is}
-use Rattle.ring_plan.proofs.Takes.{begun_as, ended_as}
-use Rattle.ring_plan_laws.specs.Accesses.{Access, answers, loads_after}
+use Rattle.ring_call_plan.specs.declared.end.PlanEnd.{PlanEnd}
+use Rattle.ring_call_plan.specs.Numbers.{head_end, head_planned, head_says, take_at, take_end, take_plan_of, take_says}
+use Rattle.ring_call_plan.specs.Plans.{TakeBegun, TakeEnded, said}
+use Rattle.ring_call_plan.specs.Shown.{Shows}
+use Rattle.ring_call_plan.proofs.Parts.{apart, false_is, true_is}
+use Rattle.ring_call_plan.proofs.Takes.{begun_as, ended_as}
+use Rattle.ring_call_plan_laws.specs.Accesses.{Access, answers, loads_after}
 use Rattle.page_access_laws.specs.Calls.{taken_of}
 
 -- a take whose next load is that of the first word

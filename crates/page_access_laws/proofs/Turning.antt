@@ -20,11 +20,11 @@ use Rattle.ring_seat.specs.Rule.{ChannelInvariant, with_end}
 use Rattle.ring_seat.specs.Whole.{WholeRule}
 use Rattle.ring_seat.proofs.Loading.{newest_is}
 use Rattle.ring_seat.proofs.WholeLaws.{call_keeps, load_keeps_all, step_keeps, store_keeps_all}
-use Rattle.ring_plan_laws.specs.Plays.{Channel}
+use Rattle.ring_call_plan_laws.specs.Plays.{Channel}
 use Rattle.ring_seat.specs.PageRule.{keeper_of}
 use Rattle.ring_seat.proofs.WholeLaws.{part_of as part_at}
 use Rattle.ring_loan_rule.proofs.Reading.{says}
-use Rattle.page_plan.specs.Shown.{part_of}
+use Rattle.page_call_plan.specs.Shown.{part_of}
 use Rattle.page_access_laws.specs.Calls.{IsExactIn, BacksAsked, PagedEnd, IsShown, PagedCall, RingCall, StoreCall, LoadCall, IsHeardBy, IsLet, IsPagedCall, PagedAccess, OfRing, StoresWord, LoadsWord, AreAllowed, IsAllowed, BeginsIn, accesses_by, after_all, begun_in, left_by}
 use Rattle.page_access_laws.specs.Turns.{IsLawfulPaged, IsPlayed, PagedTurn, Own, PeerStep, PeerCall, PeerStores, PeerLoads, opened_by, own_of, played}
 use Rattle.page_access_laws.proofs.Ringed.{ring_call}

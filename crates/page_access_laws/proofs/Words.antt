@@ -8,19 +8,19 @@ use Rattle.page_kept.specs.declared.kept.Kept.{Kept}
 use Rattle.page_kept.specs.declared.item.Item.{Item}
 use Rattle.page_kept.specs.Counts.{count, is_ask}
 use Rattle.page_kept.specs.Items.{item_of, packets, values}
-use Rattle.page_plan.specs.declared.ids.IdSlot.{IdSlot}
+use Rattle.page_call_plan.specs.declared.ids.IdSlot.{IdSlot}
 use Rattle.page_kept.specs.Kept.{copy_in}
 use Rattle.page_kept.specs.Stepped.{page_loaded, page_loaded_at, page_stored, with_word}
 use Rattle.ring_machine.specs.declared.state.EndState.{EndState}
 use Rattle.ring_machine.specs.PageCalls.{newest, with_pages}
 use Rattle.ring_machine.specs.Steps.{is_busy_at}
-use Rattle.page_plan.specs.declared.end.PageEnd.{PageEnd}
-use Rattle.page_plan.specs.declared.slot.PageSlot.{PageSlot}
-use Rattle.page_plan.specs.Answers.{no_call, planned}
-use Rattle.page_plan.specs.Ends.{is_at, load_says, store_says}
-use Rattle.page_plan.specs.Shown.{IsExact, MayStoreAll, loads, stores}
-use Rattle.page_plan.proofs.Showing.{call_planned, left, loaded_all, passed, right, stores_may, stores_show}
-use Rattle.page_plan_laws.proofs.Keeping.{still}
+use Rattle.page_call_plan.specs.declared.end.PageEnd.{PageEnd}
+use Rattle.page_call_plan.specs.declared.slot.PageSlot.{PageSlot}
+use Rattle.page_call_plan.specs.Answers.{no_call, planned}
+use Rattle.page_call_plan.specs.Ends.{is_at, load_says, store_says}
+use Rattle.page_call_plan.specs.Shown.{IsExact, MayStoreAll, loads, stores}
+use Rattle.page_call_plan.proofs.Showing.{call_planned, left, loaded_all, passed, right, stores_may, stores_show}
+use Rattle.page_call_plan_laws.proofs.Keeping.{still}
 use Rattle.page_access_laws.specs.Calls.{IsExactIn, BacksAsked, PagedEnd, IsShown, StoreCall, LoadCall, IsPagedCall, StoresWord, LoadsWord, PagedAccess, AreAllowed, after_all, left_by, loads_on, stores_on}
 
 -- a run of stores

@@ -11,18 +11,18 @@ use Rattle.ring_machine.specs.declared.state.EndState.{EndState}
 use Rattle.ring_machine.specs.PageCalls.{newest, with_pages}
 use Rattle.ring_machine.specs.States.{after, entered, Begins}
 use Rattle.ring_machine.specs.Steps.{is_busy_at, next_of}
-use Rattle.ring_plan.specs.declared.end.PlanEnd.{PlanEnd as RingEnd}
-use Rattle.ring_plan.specs.Shown.{Shows as RingShows}
-use Rattle.ring_plan_laws.specs.Accesses.{Access}
-use Rattle.ring_plan_laws.specs.Whole.{PlanCall, SendCall, TakeCall, CommitCall, ArmCall, PollCall, MarkCall, IsHeard, accesses, answer_of, begins_as, begun_by, end_of, packet_by}
-use Rattle.page_plan.specs.declared.end.PageEnd.{PageEnd}
-use Rattle.page_plan.specs.declared.ids.IdSlot.{IdSlot}
-use Rattle.page_plan.specs.declared.slot.PageSlot.{PageSlot}
-use Rattle.page_plan.specs.Answers.{planned, took}
-use Rattle.page_plan.specs.Causes.{AllFit}
-use Rattle.page_plan.specs.Ends.{asks_sent, asks_took, end_at, end_due, is_ready, load_says, new_end, new_slots, no_requests, owed_sent, owed_took, send_says, store_says, take_says}
-use Rattle.page_plan.specs.Shown.{IsExact, Shows, part_of}
-use Rattle.page_plan.specs.Slots.{part_took, slots_sent, slots_took}
+use Rattle.ring_call_plan.specs.declared.end.PlanEnd.{PlanEnd as RingEnd}
+use Rattle.ring_call_plan.specs.Shown.{Shows as RingShows}
+use Rattle.ring_call_plan_laws.specs.Accesses.{Access}
+use Rattle.ring_call_plan_laws.specs.Whole.{PlanCall, SendCall, TakeCall, CommitCall, ArmCall, PollCall, MarkCall, IsHeard, accesses, answer_of, begins_as, begun_by, end_of, packet_by}
+use Rattle.page_call_plan.specs.declared.end.PageEnd.{PageEnd}
+use Rattle.page_call_plan.specs.declared.ids.IdSlot.{IdSlot}
+use Rattle.page_call_plan.specs.declared.slot.PageSlot.{PageSlot}
+use Rattle.page_call_plan.specs.Answers.{planned, took}
+use Rattle.page_call_plan.specs.Causes.{AllFit}
+use Rattle.page_call_plan.specs.Ends.{asks_sent, asks_took, end_at, end_due, is_ready, load_says, new_end, new_slots, no_requests, owed_sent, owed_took, send_says, store_says, take_says}
+use Rattle.page_call_plan.specs.Shown.{IsExact, Shows, part_of}
+use Rattle.page_call_plan.specs.Slots.{part_took, slots_sent, slots_took}
 
 -- what a caller keeps: the numbers of its end of the rings, and those of its pages
 pub record PagedEnd : Type 0 where

@@ -17,7 +17,7 @@ use Rattle.ring_core.specs.Told.{answer_in}
 use Rattle.ring_seat.specs.PageRule.{page_index}
 use Rattle.ring_seat.specs.Rule.{with_end}
 use Rattle.ring_seat.specs.Whole.{WholeRule}
-use Rattle.ring_plan_laws.specs.Plays.{Channel, entered_by, stepped_by}
+use Rattle.ring_call_plan_laws.specs.Plays.{Channel, entered_by, stepped_by}
 use Rattle.page_access_laws.specs.Calls.{PagedAccess, OfRing, StoresWord, LoadsWord, PagedCall, begun_in}
 
 -- the channel of c data pages meets its rule, of its rings and of its pages

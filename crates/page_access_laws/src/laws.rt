@@ -4,10 +4,10 @@ ghost use Rattle.io_edge.specs.declared.side.Side.{Side};
 ghost use Rattle.ring_machine.specs.declared.state.EndState.{EndState};
 ghost use Rattle.ring_machine.specs.Steps.{machine_new};
 ghost use Rattle.ring_seat.specs.Whole.{new_paged};
-ghost use Rattle.ring_plan.specs.declared.end.PlanEnd.{PlanEnd as RingEnd};
-ghost use Rattle.ring_plan.specs.Shown.{Shows as RingShows};
-ghost use Rattle.page_plan.specs.Ends.{no_requests};
-ghost use Rattle.ring_plan_laws.specs.Plays.{Channel};
+ghost use Rattle.ring_call_plan.specs.declared.end.PlanEnd.{PlanEnd as RingEnd};
+ghost use Rattle.ring_call_plan.specs.Shown.{Shows as RingShows};
+ghost use Rattle.page_call_plan.specs.Ends.{no_requests};
+ghost use Rattle.ring_call_plan_laws.specs.Plays.{Channel};
 ghost use Rattle.page_access_laws.specs.Calls.{IsExactIn, IsHeardBy, IsLet, IsPagedCall, IsShown, PagedAccess, PagedCall, PagedEnd, accesses_by, left_by, new_by};
 ghost use Rattle.page_access_laws.specs.Turns.{IsLawfulPaged, IsPlayed, PagedTurn, opened_by, own_of, played};
 

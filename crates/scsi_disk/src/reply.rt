@@ -28,6 +28,7 @@ impl DiskReply {
         ensures fits { AllByRecursion (λ b. b < 256) back }
     {
         let bytes = back.bytes();
+        // For the proof: the numbers of a slice that is read are known to fit their type.
         let _len = bytes.len();
         DiskReply::Good(back)
     }

@@ -5,7 +5,7 @@ ghost use Rattle.sock_run.specs.Runs.{IsSockRun};
 ghost use Rattle.control_model.specs.Sock.{sock_plan};
 
 use contact::Part;
-use control_run::ControlPath;
+use control_path::ControlPath;
 use guest_end::GuestControl;
 use host_end::HostControl;
 use sock_run::{SockRun, run_sock};

@@ -1,12 +1,12 @@
 //! The page lists of networks' buffers: two networks over two phases, of which the host rescinds the second
 //! one at the end of the first phase.
-ghost use Rattle.control_run.specs.Path.{Rests};
+ghost use Rattle.control_path.specs.Path.{Rests};
 
 use crate::check::check;
 use bus_script::parse;
 use chan_state::State;
 use contact::Part;
-use control_run::{ControlPath, PathOver};
+use control_path::{ControlPath, PathOver};
 use std::process::Abort;
 use std::sync::Wait;
 use std::thread::Threads;

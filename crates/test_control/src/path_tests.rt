@@ -1,11 +1,11 @@
 //! Both controls over the queues between them, the host's on a thread of its own.
-ghost use Rattle.control_run.specs.Path.{Rests};
+ghost use Rattle.control_path.specs.Path.{Rests};
 
 use crate::check::check;
 use bus_script::parse;
 use chan_state::State;
 use contact::{Part, Version};
-use control_run::{ControlPath, PathOver};
+use control_path::{ControlPath, PathOver};
 use std::process::Abort;
 use std::sync::Wait;
 use std::thread::Threads;

@@ -1,12 +1,12 @@
 //! The control path of a socket: a guest that asks for a service, and a host that offers its channel.
 ghost use Rattle.std.specs.Prelude.{◌≡◌, []};
-ghost use Rattle.control_run.specs.Path.{Rests};
+ghost use Rattle.control_path.specs.Path.{Rests};
 
 use crate::check::check;
 use chan_state::State;
 use contact::{Kind, OfferFault, Part, Version, offer};
 use control_model::ControlFault;
-use control_run::{ControlPath, PathOver};
+use control_path::{ControlPath, PathOver};
 use gpadl::to_messages;
 use guest_end::GuestControl;
 use host_end::HostControl;

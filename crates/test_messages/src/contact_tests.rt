@@ -117,12 +117,14 @@ fn check_offer(rt: &impl Abort, m: &Msg, kind: Kind, relid: u32) {
 
 #[test]
 fn all_kinds(rt: HostRuntime) -> Result<(), Fail> {
-    let messages = offers(rt.alloc(), &[Kind::Beat, Kind::Down, Kind::Disk, Kind::Net])?;
-    check(&rt, messages.len() == 4);
+    let kinds = [Kind::Beat, Kind::Down, Kind::Disk, Kind::Net, Kind::Kvp];
+    let messages = offers(rt.alloc(), &kinds)?;
+    check(&rt, messages.len() == 5);
     check_offer(&rt, &messages[0], Kind::Beat, 1);
     check_offer(&rt, &messages[1], Kind::Down, 2);
     check_offer(&rt, &messages[2], Kind::Disk, 3);
     check_offer(&rt, &messages[3], Kind::Net, 4);
+    check_offer(&rt, &messages[4], Kind::Kvp, 5);
     let scsi = parts(&messages[2]).0;
     check(
         &rt,
@@ -131,6 +133,15 @@ fn all_kinds(rt: HostRuntime) -> Result<(), Fail> {
     check(
         &rt,
         &scsi[8..] == [0xb6, 0x05, 0x72, 0xe2, 0xff, 0xb1, 0xdc, 0x7f].as_slice(),
+    );
+    let pairs = parts(&messages[4]).0;
+    check(
+        &rt,
+        &pairs[..8] == [0xe7, 0xf4, 0xa0, 0xa9, 0x45, 0x5a, 0x96, 0x4d].as_slice(),
+    );
+    check(
+        &rt,
+        &pairs[8..] == [0xb8, 0x27, 0x8a, 0x84, 0x1e, 0x8c, 0x03, 0xe6].as_slice(),
     );
     Ok(())
 }

@@ -12,8 +12,8 @@ mod gpadl_tests;
 #[cfg(test)]
 mod mail_box_tests;
 #[cfg(test)]
-mod msg_prefix_tests;
-#[cfg(test)]
 mod vmbus_msg_tests;
 #[cfg(test)]
 mod vmbus_msg_text_tests;
+#[cfg(test)]
+mod vmbus_msg_truncated_tests;

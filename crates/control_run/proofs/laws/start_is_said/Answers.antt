@@ -1,5 +1,0 @@
-use Rattle.control_run.proofs.ToldLaws.{start_law}
-use Rattle.control_run.proofs.laws.start_is_said.Goals as goal
-
-pub returns : goal.returns
-returns c = start_law
