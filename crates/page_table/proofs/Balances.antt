@@ -1,10 +1,10 @@
--- The balances of ids, where one of them changes, and the counts of packets, where there is one more.
-use Rattle.std.proofs.Common.{◌≡◌, ◌≢◌, ℕ, ◌+◌, ◌<◌, ◌≤◌, ◌^◌, ◌==◌, ◌&&◌, Bool, true, false, not, cond, List, [], ◌∷◌, ◌++◌, Option, unwrap_or, refl, sym, ap, ◌∙◌, subst, arith}
+-- The balances of ids, and the counts of packets, where there is one more.
+use Rattle.std.proofs.Common.{◌≡◌, ◌≢◌, ℕ, ◌+◌, ◌==◌, ◌&&◌, Bool, true, false, not, List, [], ◌∷◌, ◌++◌, sym, ap, ◌∙◌, subst, arith}
 use Rattle.std.proofs.lemmas.Bool.Decides.{nat_tests}
 use Rattle.page_kept.specs.Counts.{bit, count, is_ask, is_done}
 use Rattle.pkt_desc.specs.Packets.{kind_of, id_of}
 use Rattle.page_table.specs.declared.balance.Balance.{Balance}
-use Rattle.page_table.specs.Ids.{IsBalance, IsCounted, IsWithin, balance_of, even, is_even}
+use Rattle.page_table.specs.Ids.{IsBalance, IsCounted, balance_of}
 
 count_more : (f : List ℕ → Bool) (ps : List (List ℕ)) (p : List ℕ) → count f (ps ++ p ∷ []) ≡ count f ps + bit (f p)
 count_more f [] p = omega arith
@@ -45,45 +45,3 @@ module _ (p : List ℕ) (xs ys : List (List ℕ)) where
   pub back_done : (es fs : List (ℕ × Balance)) → (kind_of p == 11) ≡ true
       → ((t a d : ℕ) → IsBalance a d (balance_of es t) → IsBalance a (d + bit (id_of p == t)) (balance_of fs t)) → IsCounted es ys xs → IsCounted fs ys (xs ++ p ∷ [])
   back_done es fs kind more h = λ t. subst (λ (n : ℕ). IsBalance (count (is_ask t) ys) n (balance_of fs t)) (sym (dones_done p xs t kind)) (more t (count (is_ask t) ys) (count (is_done t) xs) (h t))
-
--- the balance of one id becomes b, and the others stay
-module _ (tid : ℕ) (es fs : List (ℕ × Balance)) (b : Balance) (put : (t : ℕ) → balance_of fs t ≡ cond (tid == t) b (balance_of es t)) where
-  same_id : (t : ℕ) → (tid == t) ≡ true → tid ≡ t
-  same_id t e = grind (arith, nat_tests, e)
-
-  -- it is that of one request more, or of one completion more
-  pub asks_more : ((x y : ℕ) → IsBalance x y (balance_of es tid) → IsBalance (x + 1) y b) → (t a d : ℕ) → IsBalance a d (balance_of es t) → IsBalance (a + bit (tid == t)) d (balance_of fs t)
-  asks_more more t a d h = subst (λ (z : Balance). IsBalance (a + bit (tid == t)) d z) (sym (put t)) (by_id (tid == t) refl)
-    where
-      by_id : (x : Bool) → (tid == t) ≡ x → IsBalance (a + bit x) d (cond x b (balance_of es t))
-      by_id true e = more a d (subst (λ (q : ℕ). IsBalance a d (balance_of es q)) (sym (same_id t e)) h)
-      by_id false e = subst (λ (n : ℕ). IsBalance n d (balance_of es t)) (let z : a ≡ a + 0 = omega arith in z) h
-
-  pub dones_more : ((x y : ℕ) → IsBalance x y (balance_of es tid) → IsBalance x (y + 1) b) → (t a d : ℕ) → IsBalance a d (balance_of es t) → IsBalance a (d + bit (tid == t)) (balance_of fs t)
-  dones_more more t a d h = subst (λ (z : Balance). IsBalance a (d + bit (tid == t)) z) (sym (put t)) (by_id (tid == t) refl)
-    where
-      by_id : (x : Bool) → (tid == t) ≡ x → IsBalance a (d + bit x) (cond x b (balance_of es t))
-      by_id true e = more a d (subst (λ (q : ℕ). IsBalance a d (balance_of es q)) (sym (same_id t e)) h)
-      by_id false e = subst (λ (n : ℕ). IsBalance a n (balance_of es t)) (let z : d ≡ d + 0 = omega arith in z) h
-
-  -- so there is room for one packet less
-  pub within_less : (n m : ℕ) → m + 1 ≡ n → b.unanswered ≤ (balance_of es tid).unanswered + 1 → b.unasked ≤ (balance_of es tid).unasked + 1 → IsWithin es n → IsWithin fs m
-  within_less n m less more early h = λ t. subst (λ (z : Balance). (z.unanswered + m < 2 ^ 64) × (z.unasked + m < 2 ^ 64)) (sym (put t)) (by_id t (tid == t))
-    where
-      by_id : (t : ℕ) (x : Bool) → ((cond x b (balance_of es t)).unanswered + m < 2 ^ 64) × ((cond x b (balance_of es t)).unasked + m < 2 ^ 64)
-      by_id t true = (omega (arith, less, more, (h tid).0), omega (arith, less, early, (h tid).1))
-      by_id t false = (omega (arith, less, (h t).0), omega (arith, less, (h t).1))
-
-pub unwrapped : (x : Bool) (o p : Option Balance) → unwrap_or (cond x o p) even ≡ cond x (unwrap_or o even) (unwrap_or p even)
-unwrapped true o p = refl
-unwrapped false o p = refl
-
-pub even_is : (b : Balance) → is_even b ≡ true → b ≡ even
-even_is b h =
-    let a : b.unanswered ≡ 0 = grind (arith, nat_tests, both (b.unanswered == 0) (b.unasked == 0) h) in
-    let c : b.unasked ≡ 0 = grind (arith, nat_tests, both (b.unanswered == 0) (b.unasked == 0) h) in
-    (λ i. record { unanswered = a i; unasked = c i })
-  where
-    both : (x y : Bool) → (x && y) ≡ true → (x ≡ true) × (y ≡ true)
-    both true y e = (refl, e)
-    both false y e = cc

@@ -1,8 +1,9 @@
 -- How many requests of each id are open, one way.
-use Rattle.std.specs.Prelude.{◌≡◌, ℕ, ◌+◌, ◌-◌, ◌^◌, ◌<◌, Bool, ◌&&◌, ◌==◌, nat_eq, List, unwrap_or}
+use Rattle.std.specs.Prelude.{◌≡◌, ℕ, ◌+◌, ◌-◌, ◌^◌, ◌<◌, Bool, false, cond, ◌&&◌, ◌==◌, nat_eq, List, ◌∷◌, None, unwrap_or}
 use Rattle.std.specs.Map.{lookup}
 use Rattle.page_kept.specs.Counts.{count, is_ask, is_done}
 use Rattle.page_table.specs.declared.balance.Balance.{Balance}
+use Rattle.page_table.specs.declared.touched.Touched.{Touched}
 
 -- as many requests as completions
 abbrev pub even : Balance
@@ -26,6 +27,20 @@ IsCounted es asks dones = (t : ℕ) → IsBalance (count (is_ask t) asks) (count
 -- n more packets can be counted
 abbrev pub IsWithin : List (ℕ × Balance) → ℕ → Type 0
 IsWithin es n = (t : ℕ) → ((balance_of es t).unanswered + n < 2 ^ 64) × ((balance_of es t).unasked + n < 2 ^ 64)
+
+-- what is kept of all ids, where the one that was touched last stands beside the others
+abbrev pub entries_with : List (ℕ × Balance) → Touched → List (ℕ × Balance)
+entries_with es l = cond (is_even l.balance) es ((l.tid, l.balance) ∷ es)
+
+-- of n places that are free those that stay free once it goes to the others
+abbrev pub free_beside : ℕ → Balance → ℕ
+free_beside n b = n - cond (is_even b) 0 1
+
+-- it stands beside them alone, there is a place for it, and so many packets more can be counted
+pub record IsKept (es : List (ℕ × Balance)) (free : ℕ) (l : Touched) (left : ℕ) : Type 0 where
+  pub apart : lookup (nat_eq l.tid) es ≡ None
+  pub place : is_even l.balance ≡ false → 0 < free
+  pub within : IsWithin (entries_with es l) left
 
 -- the ids that aren't even, and for how many packets there is room, whatever their ids are
 pub record Counted : Type 0 where

@@ -6,6 +6,7 @@ mod ids;
 mod loan;
 mod owners;
 mod table;
+mod touched;
 
 pub use balance::Balance;
 pub use loan::Loan;
