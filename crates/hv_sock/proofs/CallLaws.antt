@@ -1,5 +1,5 @@
 -- The calls of the end of a channel, as the end of a socket makes them.
-use Rattle.std.proofs.Common.{◌≡◌, ◌+◌, ◌⊎◌, inl, inr, ⊎_elim, ℕ, List, [], ◌∷◌, ◌++◌, Option, Some, None, Result, Ok, Err, OnOk, OnErr, is_ok, Bool, true, false, cond, append-nil, refl, sym, ap, ◌∙◌, subst, arith}
+use Rattle.std.proofs.Common.{◌≡◌, ◌+◌, ℕ, List, [], ◌∷◌, ◌++◌, Option, Some, None, Result, Ok, Err, OnOk, OnErr, is_ok, Bool, true, false, cond, append-nil, refl, sym, ap, ◌∙◌, subst, arith}
 use Rattle.ring_core.specs.declared.told.Told.{Told}
 use Rattle.ring_core.specs.Seen.{Seen}
 use Rattle.ring_core.specs.Taking.{Takes}
@@ -26,10 +26,10 @@ use Rattle.hv_sock.proofs.PacketLaws.{answer_says, bytes_said}
 use Rattle.hv_sock.proofs.StreamLaws.{closed_more, fault_more, stream_more}
 
 -- between two calls an end is idle or stopped
-pub rests_or_stopped : (st : Stage) → is_busy_at st ≡ false → (st ≡ Idle) ⊎ (st ≡ Stopped)
-rests_or_stopped Idle rests = inl refl
-rests_or_stopped Stopped rests = inr refl
-rests_or_stopped _ rests = absurd (cc)
+by_rest : {A : Type 0} (st : Stage) → is_busy_at st ≡ false → (st ≡ Idle → A) → (st ≡ Stopped → A) → A
+by_rest Idle rests f g = f refl
+by_rest Stopped rests f g = g refl
+by_rest _ rests f g = absurd (cc)
 
 rests_by : (b : Bool) → is_busy_at (cond b Stopped Idle) ≡ false
 rests_by true = refl
@@ -38,11 +38,11 @@ rests_by false = refl
 rests_at : (st : Stage) (b : Bool) → st ≡ cond b Stopped Idle → is_busy_at st ≡ false
 rests_at st b is = ap is_busy_at is ∙ rests_by b
 
-untook : (took : Bool) (r other : TakeRefusal) → Some r ≡ cond took None (Some other) → took ≡ false
+pub untook : (took : Bool) (r other : TakeRefusal) → Some r ≡ cond took None (Some other) → (took ≡ false) × (r ≡ other)
 untook true r other e = absurd (cc)
-untook false r other e = refl
+untook false r other e = (refl, cc)
 
-took_it : (took : Bool) (other : TakeRefusal) → None ≡ cond took None (Some other) → took ≡ true
+pub took_it : (took : Bool) (other : TakeRefusal) → None ≡ cond took None (Some other) → took ≡ true
 took_it true other e = refl
 took_it false other e = absurd (cc)
 
@@ -55,39 +55,40 @@ pub on_ok : {T E : Type 0} (r : Result T E) (b : Bool) → b ≡ is_ok r → OnO
 on_ok (Ok t) b is = is
 on_ok (Err e) b is = tt
 
-option_cases : {A : Type 0} (o : Option A) → (o ≡ None) ⊎ ((a : A) × (o ≡ Some a))
-option_cases None = inl refl
-option_cases (Some a) = inr (a, refl)
+pub by_option : {A B : Type 0} (o : Option A) → (o ≡ None → B) → ((a : A) × (o ≡ Some a) → B) → B
+by_option None f g = f refl
+by_option (Some a) f g = g (a, refl)
+
+-- a packet went, and it didn't
+abbrev Went : {S : Type 0} → List ℕ → Seen S → Seen S → Result Signalled SendRefusal → Type 0
+Went p old new result = (s : Signalled) × (result ≡ Ok s) × (new.state.sent ≡ old.state.sent ++ p ∷ [])
+
+abbrev Stayed : {S : Type 0} → Seen S → Seen S → Result Signalled SendRefusal → Type 0
+Stayed old new result = (e : SendRefusal) × (result ≡ Err e) × (new.state.sent ≡ old.state.sent) × (new.spare_sent ≡ old.spare_sent)
 
 module _ {S : Type 0} (told : S → Option Told) (tale : S → Tale) (same : S → S → Type 0) where
   -- a take that was refused leaves what was got
   pub refused_take : (old new : Seen S) (r : TakeRefusal) → is_busy_at old.state.machine.stage ≡ false → Takes S told tale same old new (Some r) → (new.state.got ≡ old.state.got) × (new.spare_got ≡ old.spare_got)
-  refused_take old new r rests takes = ⊎_elim idle stopped (rests_or_stopped old.state.machine.stage rests)
-    where
-      idle : old.state.machine.stage ≡ Idle → (new.state.got ≡ old.state.got) × (new.spare_got ≡ old.spare_got)
-      idle h =
-          let t = takes.idle h in
-          let m = new.state.machine in
-          let no = t.refused (untook (is_took m.ended) r (take_refusal m.ended m) t.answer) in
-          (no.0, no.2)
-
-      stopped : old.state.machine.stage ≡ Stopped → (new.state.got ≡ old.state.got) × (new.spare_got ≡ old.spare_got)
-      stopped h =
-          let is = (takes.stopped h).1 in
-          (ap (λ (x : Seen S). x.state.got) is, ap (λ (x : Seen S). x.spare_got) is)
+  refused_take old new r rests takes =
+      by_rest old.state.machine.stage rests
+      (λ h.
+      let t = takes.idle h in
+      let m = new.state.machine in
+      let no = t.refused (untook (is_took m.ended) r (take_refusal m.ended m) t.answer).0 in
+      (no.0, no.2))
+      (λ h.
+      let is = (takes.stopped h).1 in
+      (ap (λ (x : Seen S). x.state.got) is, ap (λ (x : Seen S). x.spare_got) is))
 
   -- one that gave a packet leaves the end between two calls, and not stopped
   pub took_rests : (old new : Seen S) → is_busy_at old.state.machine.stage ≡ false → Takes S told tale same old new None → new.state.machine.stage ≡ Idle
-  took_rests old new rests takes = ⊎_elim idle stopped (rests_or_stopped old.state.machine.stage rests)
-    where
-      idle : old.state.machine.stage ≡ Idle → new.state.machine.stage ≡ Idle
-      idle h =
-          let t = takes.idle h in
-          let m = new.state.machine in
-          t.leaves.stage ∙ ap (λ (b : Bool). cond b Stopped Idle) (whole_take m.ended (took_it (is_took m.ended) (take_refusal m.ended m) t.answer))
-
-      stopped : old.state.machine.stage ≡ Stopped → new.state.machine.stage ≡ Idle
-      stopped h = let no = (takes.stopped h).0 in absurd (cc)
+  took_rests old new rests takes =
+      by_rest old.state.machine.stage rests
+      (λ h.
+      let t = takes.idle h in
+      let m = new.state.machine in
+      t.leaves.stage ∙ ap (λ (b : Bool). cond b Stopped Idle) (whole_take m.ended (took_it (is_took m.ended) (take_refusal m.ended m) t.answer)))
+      (λ h. let no = (takes.stopped h).0 in absurd (cc))
 
   pub refused_away : (old new : Seen S) (r : TakeRefusal) → is_busy_at old.state.machine.stage ≡ false → Takes S told tale same old new (Some r) → TakesAway S told tale same old new (Some r)
   refused_away old new r rests takes = record {
@@ -99,77 +100,59 @@ module _ {S : Type 0} (told : S → Option Told) (tale : S → Tale) (same : S �
 
   -- what the end keeps beside its lists after a send
   pub sent_rests : (p : List ℕ) (old new : Seen S) (result : Result Signalled SendRefusal) → is_busy_at old.state.machine.stage ≡ false → Sends S told tale same p old new result → is_busy_at new.state.machine.stage ≡ false
-  sent_rests p old new result rests sends = ⊎_elim idle stopped (rests_or_stopped old.state.machine.stage rests)
-    where
-      idle : old.state.machine.stage ≡ Idle → is_busy_at new.state.machine.stage ≡ false
-      idle h = rests_at new.state.machine.stage (is_broken new.state.machine.ended) (sends.idle h).leaves.stage
-
-      stopped : old.state.machine.stage ≡ Stopped → is_busy_at new.state.machine.stage ≡ false
-      stopped h = ap (λ (x : Seen S). is_busy_at x.state.machine.stage) (sends.stopped h).1 ∙ rests
+  sent_rests p old new result rests sends =
+      by_rest old.state.machine.stage rests
+      (λ h. rests_at new.state.machine.stage (is_broken new.state.machine.ended) (sends.idle h).leaves.stage)
+      (λ h. ap (λ (x : Seen S). is_busy_at x.state.machine.stage) (sends.stopped h).1 ∙ rests)
 
   pub sent_committed : (p : List ℕ) (old new : Seen S) (result : Result Signalled SendRefusal) → is_busy_at old.state.machine.stage ≡ false → Sends S told tale same p old new result → old.state.machine.start ≡ old.state.machine.read → new.state.machine.start ≡ new.state.machine.read
-  sent_committed p old new result rests sends committed = ⊎_elim idle stopped (rests_or_stopped old.state.machine.stage rests)
-    where
-      idle : old.state.machine.stage ≡ Idle → new.state.machine.start ≡ new.state.machine.read
-      idle h = let a = (sends.idle h).after in a.start (λ e. cc) ∙ (committed ∙ sym (a.read (λ e. cc)))
-
-      stopped : old.state.machine.stage ≡ Stopped → new.state.machine.start ≡ new.state.machine.read
-      stopped h = ap (λ (x : Seen S). x.state.machine.start) (sends.stopped h).1 ∙ (committed ∙ sym (ap (λ (x : Seen S). x.state.machine.read) (sends.stopped h).1))
+  sent_committed p old new result rests sends committed =
+      by_rest old.state.machine.stage rests
+      (λ h. let a = (sends.idle h).after in a.start (λ e. cc) ∙ (committed ∙ sym (a.read (λ e. cc))))
+      (λ h. ap (λ (x : Seen S). x.state.machine.start) (sends.stopped h).1 ∙ (committed ∙ sym (ap (λ (x : Seen S). x.state.machine.read) (sends.stopped h).1)))
 
   -- a read of a stream that can go on: what it leaves of the stream, by its answer
   pub read_stream : (old new : Seen S) (result : Result Got SockFault) (out out' : List ℕ) → IsOpen old.state.got → Reads S told tale same old new result out out' → stream_of new.state.got ≡ stream_of old.state.got ++ bytes_read result out'
-  read_stream old new result out out' can r = ⊎_elim took refused (option_cases r.refusal)
-    where
-      took : r.refusal ≡ None → stream_of new.state.got ≡ stream_of old.state.got ++ bytes_read result out'
-      took none =
-          let g = r.read none in
-          ap stream_of g.got
-          ∙ (stream_more old.state.got g.packet can
-          ∙ ap (λ (l : List ℕ). stream_of old.state.got ++ l) (sym (bytes_said (says g.packet) out) ∙ (λ i. bytes_read (sym g.answer i) (sym g.out_is i))))
-
-      refused : ((q : TakeRefusal) × (r.refusal ≡ Some q)) → stream_of new.state.got ≡ stream_of old.state.got ++ bytes_read result out'
-      refused q =
-          ap stream_of (r.takes.refused q.0 q.1).1
-          ∙ (sym (append-nil (stream_of old.state.got)) ∙ ap (λ (x : Result Got SockFault). stream_of old.state.got ++ bytes_read x out') (sym (r.refused q.0 q.1).0))
+  read_stream old new result out out' can r =
+      by_option r.refusal
+      (λ none.
+      let g = r.read none in
+      ap stream_of g.got
+      ∙ (stream_more old.state.got g.packet can
+      ∙ ap (λ (l : List ℕ). stream_of old.state.got ++ l) (sym (bytes_said (says g.packet) out) ∙ (λ i. bytes_read (sym g.answer i) (sym g.out_is i)))))
+      (λ q.
+      ap stream_of (r.takes.refused q.0 q.1).1
+      ∙ (sym (append-nil (stream_of old.state.got)) ∙ ap (λ (x : Result Got SockFault). stream_of old.state.got ++ bytes_read x out') (sym (r.refused q.0 q.1).0)))
 
   pub read_closed : (old new : Seen S) (result : Result Got SockFault) (out out' : List ℕ) → IsOpen old.state.got → Reads S told tale same old new result out out' → is_closed new.state.got ≡ closes result
-  read_closed old new result out out' can r = ⊎_elim took refused (option_cases r.refusal)
-    where
-      took : r.refusal ≡ None → is_closed new.state.got ≡ closes result
-      took none =
-          let g = r.read none in
-          ap is_closed g.got ∙ (closed_more old.state.got g.packet can ∙ (sym (answer_says g.packet).0 ∙ ap closes (sym g.answer)))
-
-      refused : ((q : TakeRefusal) × (r.refusal ≡ Some q)) → is_closed new.state.got ≡ closes result
-      refused q = ap is_closed (r.takes.refused q.0 q.1).1 ∙ (can.unclosed ∙ ap closes (sym (r.refused q.0 q.1).0))
+  read_closed old new result out out' can r =
+      by_option r.refusal
+      (λ none.
+      let g = r.read none in
+      ap is_closed g.got ∙ (closed_more old.state.got g.packet can ∙ (sym (answer_says g.packet).0 ∙ ap closes (sym g.answer))))
+      (λ q. ap is_closed (r.takes.refused q.0 q.1).1 ∙ (can.unclosed ∙ ap closes (sym (r.refused q.0 q.1).0)))
 
   pub read_fault : (old new : Seen S) (result : Result Got SockFault) (out out' : List ℕ) → IsOpen old.state.got → Reads S told tale same old new result out out' → fault_in new.state.got ≡ breaks_off result
-  read_fault old new result out out' can r = ⊎_elim took refused (option_cases r.refusal)
-    where
-      took : r.refusal ≡ None → fault_in new.state.got ≡ breaks_off result
-      took none =
-          let g = r.read none in
-          ap fault_in g.got ∙ (fault_more old.state.got g.packet can ∙ (sym (answer_says g.packet).1 ∙ ap breaks_off (sym g.answer)))
-
-      refused : ((q : TakeRefusal) × (r.refusal ≡ Some q)) → fault_in new.state.got ≡ breaks_off result
-      refused q = ap fault_in (r.takes.refused q.0 q.1).1 ∙ (can.whole ∙ ap breaks_off (sym (r.refused q.0 q.1).0))
+  read_fault old new result out out' can r =
+      by_option r.refusal
+      (λ none.
+      let g = r.read none in
+      ap fault_in g.got ∙ (fault_more old.state.got g.packet can ∙ (sym (answer_says g.packet).1 ∙ ap breaks_off (sym g.answer))))
+      (λ q. ap fault_in (r.takes.refused q.0 q.1).1 ∙ (can.whole ∙ ap breaks_off (sym (r.refused q.0 q.1).0)))
 
   -- and what the end keeps beside its lists
   refused_rests : (old new : Seen S) (q : TakeRefusal) → is_busy_at old.state.machine.stage ≡ false → Takes S told tale same old new (Some q) → old.state.machine.start ≡ old.state.machine.read → (is_busy_at new.state.machine.stage ≡ false) × (new.state.machine.start ≡ new.state.machine.read)
-  refused_rests old new q rests takes committed = ⊎_elim idle stopped (rests_or_stopped old.state.machine.stage rests)
-    where
-      idle : old.state.machine.stage ≡ Idle → (is_busy_at new.state.machine.stage ≡ false) × (new.state.machine.start ≡ new.state.machine.read)
-      idle h =
-          let t = takes.idle h in
-          let m = new.state.machine in
-          let no = untook (is_took m.ended) q (take_refusal m.ended m) t.answer in
-          let read : m.read ≡ old.state.machine.read = t.leaves.read ∙ ap (λ (b : Bool). cond b (ahead old.state.machine.cells old.state.machine.read (m.len + 1)) old.state.machine.read) no in
-          (rests_at m.stage (is_broken m.ended) t.leaves.stage, t.after.start (λ e. cc) ∙ (committed ∙ sym read))
-
-      stopped : old.state.machine.stage ≡ Stopped → (is_busy_at new.state.machine.stage ≡ false) × (new.state.machine.start ≡ new.state.machine.read)
-      stopped h =
-          let is = (takes.stopped h).1 in
-          (ap (λ (x : Seen S). is_busy_at x.state.machine.stage) is ∙ rests, ap (λ (x : Seen S). x.state.machine.start) is ∙ (committed ∙ sym (ap (λ (x : Seen S). x.state.machine.read) is)))
+  refused_rests old new q rests takes committed =
+      by_rest old.state.machine.stage rests
+      (λ h.
+      let t = takes.idle h in
+      let m = new.state.machine in
+      let no = (untook (is_took m.ended) q (take_refusal m.ended m) t.answer).0 in
+      let read : m.read ≡ old.state.machine.read = t.leaves.read ∙ ap (λ (b : Bool). cond b (ahead old.state.machine.cells old.state.machine.read (m.len + 1)) old.state.machine.read) no in
+      (rests_at m.stage (is_broken m.ended) t.leaves.stage, t.after.start (λ e. cc) ∙ (committed ∙ sym read)))
+      (λ h.
+      let is = (takes.stopped h).1 in
+      (ap (λ (x : Seen S). is_busy_at x.state.machine.stage) is ∙ rests, ap (λ (x : Seen S). x.state.machine.start) is ∙ (committed ∙ sym (ap (λ (x : Seen S). x.state.machine.read) is))))
 
   pub read_rests : (old new : Seen S) (refusal : Option TakeRefusal) → is_busy_at old.state.machine.stage ≡ false → TakesAway S told tale same old new refusal → old.state.machine.start ≡ old.state.machine.read → (is_busy_at new.state.machine.stage ≡ false) × (new.state.machine.start ≡ new.state.machine.read)
   read_rests old new (Some q) rests away committed =
@@ -207,27 +190,18 @@ module _ {S : Type 0} (told : S → Option Told) (tale : S → Tale) (same : S �
       }
 
   -- a packet went, or it didn't
-  pub sent_or_not : (p : List ℕ) (old new : Seen S) (result : Result Signalled SendRefusal) → is_busy_at old.state.machine.stage ≡ false → Sends S told tale same p old new result
-      → ((s : Signalled) × (result ≡ Ok s) × (new.state.sent ≡ old.state.sent ++ p ∷ [])) ⊎ ((e : SendRefusal) × (result ≡ Err e) × (new.state.sent ≡ old.state.sent) × (new.spare_sent ≡ old.spare_sent))
-  sent_or_not p old new result rests sends = ⊎_elim idle stopped (rests_or_stopped old.state.machine.stage rests)
+  by_sent : {A : Type 0} (p : List ℕ) (old new : Seen S) (result : Result Signalled SendRefusal) → is_busy_at old.state.machine.stage ≡ false → Sends S told tale same p old new result → (Went p old new result → A) → (Stayed old new result → A) → A
+  by_sent {A} p old new result rests sends f g =
+      by_rest old.state.machine.stage rests
+      (λ h. let t = sends.idle h in by_how new.state.machine.ended refl t.call t.answer t.sent)
+      (λ h. let t = sends.stopped h in g (StoppedSend (why_of old.state.machine), t.0, ap (λ (x : Seen S). x.state.sent) t.1, ap (λ (x : Seen S). x.spare_sent) t.1))
     where
-      Outcome : Type 0
-      Outcome = ((s : Signalled) × (result ≡ Ok s) × (new.state.sent ≡ old.state.sent ++ p ∷ [])) ⊎ ((e : SendRefusal) × (result ≡ Err e) × (new.state.sent ≡ old.state.sent) × (new.spare_sent ≡ old.spare_sent))
-
-      by_how : (how : Ending) → new.state.machine.ended ≡ how → call_by how ≡ Send → result ≡ send_answer how new.state.machine → new.state.sent ≡ cond (is_sent how) (old.state.sent ++ p ∷ []) old.state.sent → Outcome
-      by_how SentQuiet at call answer sent = inl (Quiet, answer, sent)
-      by_how SentRaised at call answer sent = inl (Raised, answer, sent)
-      by_how Full at call answer sent = inr (SendFull (free_bytes new.state.machine) (need_bytes new.state.machine), answer, sent, sends.room.same (ap is_sent at))
-      by_how BadPeer at call answer sent = inr (SendBadPeer new.state.machine.value, answer, sent, sends.room.same (ap is_sent at))
+      by_how : (how : Ending) → new.state.machine.ended ≡ how → call_by how ≡ Send → result ≡ send_answer how new.state.machine → new.state.sent ≡ cond (is_sent how) (old.state.sent ++ p ∷ []) old.state.sent → A
+      by_how SentQuiet at call answer sent = f (Quiet, answer, sent)
+      by_how SentRaised at call answer sent = f (Raised, answer, sent)
+      by_how Full at call answer sent = g (SendFull (free_bytes new.state.machine) (need_bytes new.state.machine), answer, sent, sends.room.same (ap is_sent at))
+      by_how BadPeer at call answer sent = g (SendBadPeer new.state.machine.value, answer, sent, sends.room.same (ap is_sent at))
       by_how _ at call answer sent = absurd (cc)
-
-      idle : old.state.machine.stage ≡ Idle → Outcome
-      idle h = let t = sends.idle h in by_how new.state.machine.ended refl t.call t.answer t.sent
-
-      stopped : old.state.machine.stage ≡ Stopped → Outcome
-      stopped h =
-          let t = sends.stopped h in
-          inr (StoppedSend (why_of old.state.machine), t.0, ap (λ (x : Seen S). x.state.sent) t.1, ap (λ (x : Seen S). x.spare_sent) t.1)
 
   pub sent_stands : (p : List ℕ) (old new : Seen S) (result : Result Signalled SendRefusal) (shut shut' ended : Bool) (fault : Option SockFault) → IsSock old shut ended fault → Sends S told tale same p old new result → new.state.pages.count ≡ 0
       → shut' ≡ is_closed new.state.sent → fault_in new.state.sent ≡ None → IsSock new shut' ended fault
@@ -244,67 +218,46 @@ module _ {S : Type 0} (told : S → Option Told) (tale : S → Tale) (same : S �
 
   -- what a send of a packet that says so leaves of a stream that wasn't closed
   pub sent_whole : (p : List ℕ) (old new : Seen S) (result : Result Signalled SendRefusal) → is_busy_at old.state.machine.stage ≡ false → Sends S told tale same p old new result → IsOpen old.state.sent → fault_by (says p) None ≡ None → fault_in new.state.sent ≡ None
-  sent_whole p old new result rests sends can none = ⊎_elim ok no (sent_or_not p old new result rests sends)
-    where
-      ok : ((s : Signalled) × (result ≡ Ok s) × (new.state.sent ≡ old.state.sent ++ p ∷ [])) → fault_in new.state.sent ≡ None
-      ok t = ap fault_in t.2 ∙ (fault_more old.state.sent p can ∙ none)
-
-      no : ((e : SendRefusal) × (result ≡ Err e) × (new.state.sent ≡ old.state.sent) × (new.spare_sent ≡ old.spare_sent)) → fault_in new.state.sent ≡ None
-      no t = ap fault_in t.2 ∙ can.whole
+  sent_whole p old new result rests sends can none =
+      by_sent p old new result rests sends
+      (λ t. ap fault_in t.2 ∙ (fault_more old.state.sent p can ∙ none))
+      (λ t. ap fault_in t.2 ∙ can.whole)
 
   pub sent_open : (p bytes : List ℕ) (old new : Seen S) (result : Result Signalled SendRefusal) → is_busy_at old.state.machine.stage ≡ false → Sends S told tale same p old new result → IsOpen old.state.sent → says p ≡ Data bytes → is_closed new.state.sent ≡ false
-  sent_open p bytes old new result rests sends can is = ⊎_elim ok no (sent_or_not p old new result rests sends)
-    where
-      ok : ((s : Signalled) × (result ≡ Ok s) × (new.state.sent ≡ old.state.sent ++ p ∷ [])) → is_closed new.state.sent ≡ false
-      ok t = ap is_closed t.2 ∙ (closed_more old.state.sent p can ∙ ap (λ (s : Said). closed_by s false) is)
-
-      no : ((e : SendRefusal) × (result ≡ Err e) × (new.state.sent ≡ old.state.sent) × (new.spare_sent ≡ old.spare_sent)) → is_closed new.state.sent ≡ false
-      no t = ap is_closed t.2 ∙ can.unclosed
+  sent_open p bytes old new result rests sends can is =
+      by_sent p old new result rests sends
+      (λ t. ap is_closed t.2 ∙ (closed_more old.state.sent p can ∙ ap (λ (s : Said). closed_by s false) is))
+      (λ t. ap is_closed t.2 ∙ can.unclosed)
 
   pub sent_stream : (p bytes : List ℕ) (old new : Seen S) (result : Result Signalled SendRefusal) → is_busy_at old.state.machine.stage ≡ false → Sends S told tale same p old new result → IsOpen old.state.sent → says p ≡ Data bytes → OnOk result (stream_of new.state.sent ≡ stream_of old.state.sent ++ bytes)
-  sent_stream p bytes old new result rests sends can is = ⊎_elim ok no (sent_or_not p old new result rests sends)
-    where
-      ok : ((s : Signalled) × (result ≡ Ok s) × (new.state.sent ≡ old.state.sent ++ p ∷ [])) → OnOk result (stream_of new.state.sent ≡ stream_of old.state.sent ++ bytes)
-      ok t =
-          subst (λ (r : Result Signalled SendRefusal). OnOk r (stream_of new.state.sent ≡ stream_of old.state.sent ++ bytes)) (sym t.1)
-          (ap stream_of t.2 ∙ (stream_more old.state.sent p can ∙ (ap (λ (s : Said). stream_of old.state.sent ++ data_then s []) is ∙ ap (λ (l : List ℕ). stream_of old.state.sent ++ l) (append-nil bytes))))
-
-      no : ((e : SendRefusal) × (result ≡ Err e) × (new.state.sent ≡ old.state.sent) × (new.spare_sent ≡ old.spare_sent)) → OnOk result (stream_of new.state.sent ≡ stream_of old.state.sent ++ bytes)
-      no t = subst (λ (r : Result Signalled SendRefusal). OnOk r (stream_of new.state.sent ≡ stream_of old.state.sent ++ bytes)) (sym t.1) tt
+  sent_stream p bytes old new result rests sends can is =
+      by_sent p old new result rests sends
+      (λ t.
+      subst (λ (r : Result Signalled SendRefusal). OnOk r (stream_of new.state.sent ≡ stream_of old.state.sent ++ bytes)) (sym t.1)
+      (ap stream_of t.2 ∙ (stream_more old.state.sent p can ∙ (ap (λ (s : Said). stream_of old.state.sent ++ data_then s []) is ∙ ap (λ (l : List ℕ). stream_of old.state.sent ++ l) (append-nil bytes)))))
+      (λ t. subst (λ (r : Result Signalled SendRefusal). OnOk r (stream_of new.state.sent ≡ stream_of old.state.sent ++ bytes)) (sym t.1) tt)
 
   -- and of one that ends the direction
   pub ended_stream : (p : List ℕ) (old new : Seen S) (result : Result Signalled SendRefusal) → is_busy_at old.state.machine.stage ≡ false → Sends S told tale same p old new result → IsOpen old.state.sent → says p ≡ Close → stream_of new.state.sent ≡ stream_of old.state.sent
-  ended_stream p old new result rests sends can is = ⊎_elim ok no (sent_or_not p old new result rests sends)
-    where
-      ok : ((s : Signalled) × (result ≡ Ok s) × (new.state.sent ≡ old.state.sent ++ p ∷ [])) → stream_of new.state.sent ≡ stream_of old.state.sent
-      ok t = ap stream_of t.2 ∙ (stream_more old.state.sent p can ∙ (ap (λ (s : Said). stream_of old.state.sent ++ data_then s []) is ∙ append-nil (stream_of old.state.sent)))
-
-      no : ((e : SendRefusal) × (result ≡ Err e) × (new.state.sent ≡ old.state.sent) × (new.spare_sent ≡ old.spare_sent)) → stream_of new.state.sent ≡ stream_of old.state.sent
-      no t = ap stream_of t.2
+  ended_stream p old new result rests sends can is =
+      by_sent p old new result rests sends
+      (λ t. ap stream_of t.2 ∙ (stream_more old.state.sent p can ∙ (ap (λ (s : Said). stream_of old.state.sent ++ data_then s []) is ∙ append-nil (stream_of old.state.sent))))
+      (λ t. ap stream_of t.2)
 
   pub ended_closed : (p : List ℕ) (old new : Seen S) (result : Result Signalled SendRefusal) → is_busy_at old.state.machine.stage ≡ false → Sends S told tale same p old new result → IsOpen old.state.sent → says p ≡ Close → is_closed new.state.sent ≡ is_ok result
-  ended_closed p old new result rests sends can is = ⊎_elim ok no (sent_or_not p old new result rests sends)
-    where
-      ok : ((s : Signalled) × (result ≡ Ok s) × (new.state.sent ≡ old.state.sent ++ p ∷ [])) → is_closed new.state.sent ≡ is_ok result
-      ok t = ap is_closed t.2 ∙ (closed_more old.state.sent p can ∙ (ap (λ (s : Said). closed_by s false) is ∙ ap is_ok (sym t.1)))
-
-      no : ((e : SendRefusal) × (result ≡ Err e) × (new.state.sent ≡ old.state.sent) × (new.spare_sent ≡ old.spare_sent)) → is_closed new.state.sent ≡ is_ok result
-      no t = ap is_closed t.2 ∙ (can.unclosed ∙ ap is_ok (sym t.1))
+  ended_closed p old new result rests sends can is =
+      by_sent p old new result rests sends
+      (λ t. ap is_closed t.2 ∙ (closed_more old.state.sent p can ∙ (ap (λ (s : Said). closed_by s false) is ∙ ap is_ok (sym t.1))))
+      (λ t. ap is_closed t.2 ∙ (can.unclosed ∙ ap is_ok (sym t.1)))
 
   pub sent_ok : (p : List ℕ) (old new : Seen S) (result : Result Signalled SendRefusal) → is_busy_at old.state.machine.stage ≡ false → Sends S told tale same p old new result → OnOk result (new.state.sent ≡ old.state.sent ++ p ∷ [])
-  sent_ok p old new result rests sends = ⊎_elim ok no (sent_or_not p old new result rests sends)
-    where
-      ok : ((s : Signalled) × (result ≡ Ok s) × (new.state.sent ≡ old.state.sent ++ p ∷ [])) → OnOk result (new.state.sent ≡ old.state.sent ++ p ∷ [])
-      ok t = subst (λ (r : Result Signalled SendRefusal). OnOk r (new.state.sent ≡ old.state.sent ++ p ∷ [])) (sym t.1) t.2
-
-      no : ((e : SendRefusal) × (result ≡ Err e) × (new.state.sent ≡ old.state.sent) × (new.spare_sent ≡ old.spare_sent)) → OnOk result (new.state.sent ≡ old.state.sent ++ p ∷ [])
-      no t = subst (λ (r : Result Signalled SendRefusal). OnOk r (new.state.sent ≡ old.state.sent ++ p ∷ [])) (sym t.1) tt
+  sent_ok p old new result rests sends =
+      by_sent p old new result rests sends
+      (λ t. subst (λ (r : Result Signalled SendRefusal). OnOk r (new.state.sent ≡ old.state.sent ++ p ∷ [])) (sym t.1) t.2)
+      (λ t. subst (λ (r : Result Signalled SendRefusal). OnOk r (new.state.sent ≡ old.state.sent ++ p ∷ [])) (sym t.1) tt)
 
   pub sent_err : (p : List ℕ) (old new : Seen S) (result : Result Signalled SendRefusal) → is_busy_at old.state.machine.stage ≡ false → Sends S told tale same p old new result → OnErr result ((new.state.sent ≡ old.state.sent) × (new.spare_sent ≡ old.spare_sent))
-  sent_err p old new result rests sends = ⊎_elim ok no (sent_or_not p old new result rests sends)
-    where
-      ok : ((s : Signalled) × (result ≡ Ok s) × (new.state.sent ≡ old.state.sent ++ p ∷ [])) → OnErr result ((new.state.sent ≡ old.state.sent) × (new.spare_sent ≡ old.spare_sent))
-      ok t = subst (λ (r : Result Signalled SendRefusal). OnErr r ((new.state.sent ≡ old.state.sent) × (new.spare_sent ≡ old.spare_sent))) (sym t.1) tt
-
-      no : ((e : SendRefusal) × (result ≡ Err e) × (new.state.sent ≡ old.state.sent) × (new.spare_sent ≡ old.spare_sent)) → OnErr result ((new.state.sent ≡ old.state.sent) × (new.spare_sent ≡ old.spare_sent))
-      no t = subst (λ (r : Result Signalled SendRefusal). OnErr r ((new.state.sent ≡ old.state.sent) × (new.spare_sent ≡ old.spare_sent))) (sym t.1) (t.2, t.3)
+  sent_err p old new result rests sends =
+      by_sent p old new result rests sends
+      (λ t. subst (λ (r : Result Signalled SendRefusal). OnErr r ((new.state.sent ≡ old.state.sent) × (new.spare_sent ≡ old.spare_sent))) (sym t.1) tt)
+      (λ t. subst (λ (r : Result Signalled SendRefusal). OnErr r ((new.state.sent ≡ old.state.sent) × (new.spare_sent ≡ old.spare_sent))) (sym t.1) (t.2, t.3))

@@ -1,5 +1,5 @@
 -- The packets of a socket: their words, and what they say.
-use Rattle.std.proofs.Common.{◌≡◌, ℕ, zero, suc, ◌+◌, ◌-◌, ◌*◌, ◌/◌, ◌%◌, ◌^◌, ◌<◌, ◌≤◌, Bool, true, false, cond, ◌==◌, ltb, leb, List, [], ◌∷◌, ◌++◌, length, get_or, take, drop, set, replicate, Option, Some, None, Err, length-append, length-drop, length-take-le, refl, sym, ap, ◌∙◌, subst, arith}
+use Rattle.std.proofs.Common.{rules, ◌≡◌, ℕ, zero, suc, ◌+◌, ◌-◌, ◌*◌, ◌/◌, ◌%◌, ◌^◌, ◌<◌, ◌≤◌, Bool, true, false, cond, ◌==◌, ltb, leb, List, [], ◌∷◌, ◌++◌, length, get_or, take, drop, set, replicate, Option, Some, None, Err, length-append, length-drop, length-take-le, refl, sym, ap, ◌∙◌, subst, arith}
 use Rattle.std.proofs.lemmas.Bool.{and_from, and_parts, eq-eqb, eqb-true, le-leb, le-ltb, leb-true, ltb-false, ne_eqb}
 use Rattle.std.proofs.lemmas.List.{append-nil, length-replicate, take-append-le, take_at}
 use Rattle.std.proofs.lemmas.Nat.{shr-shr}
@@ -69,10 +69,6 @@ data_of_words (v ∷ ws) some = refl
 pub past_short : (c : List ℕ) → 8 ≤ length c → content_fault c ≡ header_fault (type_in c) (size_in c) (length c)
 past_short c long = ap (λ (b : Bool). cond b (Some (Short (length c))) (header_fault (type_in c) (size_in c) (length c))) (le-ltb (length c) 8 long)
 
-pub short_words : (ws : List ℕ) (have : ℕ) → length ws ≡ 0 → have ≡ 0 → content_fault (bytes_in ws) ≡ Some (Short have)
-short_words [] have none is = ap (λ (h : ℕ). Some (Short h)) (sym is)
-short_words (v ∷ ws) have none is = absurd (omega arith)
-
 pub words_fault : (ws : List ℕ) → 0 < length ws → get_or ws 0 0 < 2 ^ 64 → content_fault (bytes_in ws) ≡ header_fault (get_or ws 0 0 % 2 ^ 32) (get_or ws 0 0 / 2 ^ 32) (8 * length ws)
 words_fault ws some word =
     past_short (bytes_in ws) (omega (arith, length-bytes_in ws))
@@ -91,23 +87,12 @@ abbrev pub Own : Option SockFault → Type 0
 Own None = Unit {0}
 Own (Some f) = (closes (Err f) ≡ false) × (breaks_off (Err f) ≡ Some f)
 
-own_cond : (b : Bool) (x y : Option SockFault) → Own x → Own y → Own (cond b x y)
-own_cond true x y p q = p
-own_cond false x y p q = q
-
 own : (c : List ℕ) → Own (content_fault c)
-own c =
-    own_cond (ltb (length c) 8) (Some (Short (length c))) (header_fault (type_in c) (size_in c) (length c)) (refl, refl)
-    (own_cond (type_in c == 1) (cond (is_size (size_in c) (length c)) None (Some (Size (size_in c) (length c)))) (Some (Kind (type_in c)))
-    (own_cond (is_size (size_in c) (length c)) None (Some (Size (size_in c) (length c))) tt (refl, refl)) (refl, refl))
-
-plain_answer : (b : Bool) (bytes : List ℕ) → (closes (answer_of (cond b Close (Data bytes))) ≡ closed_by (cond b Close (Data bytes)) false) × (breaks_off (answer_of (cond b Close (Data bytes))) ≡ fault_by (cond b Close (Data bytes)) None)
-plain_answer true bytes = (refl, refl)
-plain_answer false bytes = (refl, refl)
+own c = search rules
 
 answer_by : (o : Option SockFault) (c : List ℕ) → Own o → (closes (answer_of (said_by o c)) ≡ closed_by (said_by o c) false) × (breaks_off (answer_of (said_by o c)) ≡ fault_by (said_by o c) None)
 answer_by (Some f) c h = h
-answer_by None c h = plain_answer (size_in c == 0) (data_in c)
+answer_by None c h = search rules
 
 -- what the answer to a packet says of the stream that it ends
 pub answer_says : (p : List ℕ) → (closes (answer_of (says p)) ≡ closed_by (says p) false) × (breaks_off (answer_of (says p)) ≡ fault_by (says p) None)
@@ -123,13 +108,9 @@ SaidOwn (Data bytes) = Unit {0}
 SaidOwn Close = Unit {0}
 SaidOwn (Fault f) = Own (Some f)
 
-plain_own : (b : Bool) (bytes : List ℕ) → SaidOwn (cond b Close (Data bytes))
-plain_own true bytes = tt
-plain_own false bytes = tt
-
 said_own : (o : Option SockFault) (c : List ℕ) → Own o → SaidOwn (said_by o c)
 said_own (Some f) c h = h
-said_own None c h = plain_own (size_in c == 0) (data_in c)
+said_own None c h = search rules
 
 broken_by : (s : Said) (x : Bool) (o : Option SockFault) (f : SockFault) → SaidOwn s → (o ≡ Some f → (x ≡ false) × Own (Some f)) → fault_by s o ≡ Some f → (closed_by s x ≡ false) × Own (Some f)
 broken_by (Data bytes) x o f own rest is = rest is

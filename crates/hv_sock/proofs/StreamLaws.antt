@@ -8,8 +8,7 @@ use Rattle.hv_sock.specs.Streams.{IsOpen, ReadsOf, closed_by, data_then, fault_b
 stream_step : (s : Said) (ps : List (List ℕ)) (p : List ℕ) → (IsOpen ps → stream_of (ps ++ p ∷ []) ≡ stream_of ps ++ data_then (says p) []) → closed_by s (is_closed ps) ≡ false → fault_by s (fault_in ps) ≡ None
     → data_then s (stream_of (ps ++ p ∷ [])) ≡ data_then s (stream_of ps) ++ data_then (says p) []
 stream_step (Data bytes) ps p more closed fault = ap (λ (l : List ℕ). bytes ++ l) (more (record { unclosed = closed; whole = fault })) ∙ sym (append_assoc bytes (stream_of ps) (data_then (says p) []))
-stream_step Close ps p more closed fault = absurd (cc)
-stream_step (Fault f) ps p more closed fault = absurd (cc)
+stream_step _ ps p more closed fault = absurd (cc)
 
 -- what one packet more adds to a stream that can go on
 pub stream_more : (ps : List (List ℕ)) (p : List ℕ) → IsOpen ps → stream_of (ps ++ p ∷ []) ≡ stream_of ps ++ data_then (says p) []
@@ -19,8 +18,7 @@ stream_more (q ∷ ps) p is = stream_step (says q) ps p (stream_more ps p) is.un
 closed_step : (s : Said) (ps : List (List ℕ)) (p : List ℕ) → (IsOpen ps → is_closed (ps ++ p ∷ []) ≡ closed_by (says p) false) → closed_by s (is_closed ps) ≡ false → fault_by s (fault_in ps) ≡ None
     → closed_by s (is_closed (ps ++ p ∷ [])) ≡ closed_by (says p) false
 closed_step (Data bytes) ps p more closed fault = more (record { unclosed = closed; whole = fault })
-closed_step Close ps p more closed fault = absurd (cc)
-closed_step (Fault f) ps p more closed fault = absurd (cc)
+closed_step _ ps p more closed fault = absurd (cc)
 
 pub closed_more : (ps : List (List ℕ)) (p : List ℕ) → IsOpen ps → is_closed (ps ++ p ∷ []) ≡ closed_by (says p) false
 closed_more [] p is = refl
@@ -29,8 +27,7 @@ closed_more (q ∷ ps) p is = closed_step (says q) ps p (closed_more ps p) is.un
 fault_step : (s : Said) (ps : List (List ℕ)) (p : List ℕ) → (IsOpen ps → fault_in (ps ++ p ∷ []) ≡ fault_by (says p) None) → closed_by s (is_closed ps) ≡ false → fault_by s (fault_in ps) ≡ None
     → fault_by s (fault_in (ps ++ p ∷ [])) ≡ fault_by (says p) None
 fault_step (Data bytes) ps p more closed fault = more (record { unclosed = closed; whole = fault })
-fault_step Close ps p more closed fault = absurd (cc)
-fault_step (Fault f) ps p more closed fault = absurd (cc)
+fault_step _ ps p more closed fault = absurd (cc)
 
 pub fault_more : (ps : List (List ℕ)) (p : List ℕ) → IsOpen ps → fault_in (ps ++ p ∷ []) ≡ fault_by (says p) None
 fault_more [] p is = refl
@@ -38,8 +35,7 @@ fault_more (q ∷ ps) p is = fault_step (says q) ps p (fault_more ps p) is.unclo
 
 front_by : (s : Said) (a b : List ℕ) → IsFront a b → IsFront (data_then s a) (data_then s b)
 front_by (Data bytes) a b f = (f.0, ap (λ (l : List ℕ). bytes ++ l) f.1 ∙ sym (append_assoc bytes a f.0))
-front_by Close a b f = ([], refl)
-front_by (Fault e) a b f = ([], refl)
+front_by _ a b f = ([], refl)
 
 front_with : (got rest : List (List ℕ)) → IsFront (stream_of got) (stream_of (got ++ rest))
 front_with [] rest = (stream_of rest, refl)

@@ -1,5 +1,5 @@
 -- What accesses of the rings make of the pages of an end, and of the packets that it got.
-use Rattle.std.proofs.Common.{◌≡◌, ℕ, zero, suc, ◌==◌, Bool, true, false, cond, List, [], ◌∷◌, ◌++◌, length, Option, Some, None, refl, ap, ◌∙◌}
+use Rattle.std.proofs.Common.{◌≡◌, ℕ, zero, suc, ◌==◌, Bool, true, false, cond, List, [], ◌∷◌, length, Option, Some, None, refl, ap, ◌∙◌}
 use Rattle.io_edge.specs.declared.side.Side.{Side}
 use Rattle.pkt_desc.specs.Packets.{kind_of, id_of}
 use Rattle.page_kept.specs.declared.kept.Kept.{Kept}
@@ -7,21 +7,21 @@ use Rattle.page_kept.specs.Kept.{first_page, gives_back, has_back, holds_now, is
 use Rattle.page_kept.specs.Layouts.{Layout, Loan, layout}
 use Rattle.ring_machine.specs.declared.machine.EndMachine.{EndMachine}
 use Rattle.ring_machine.specs.declared.machine.Stage.{Stage}
-use Rattle.ring_machine.specs.declared.machine.Stage.TheVariants.{TakeFirst, TakeCell}
+use Rattle.ring_machine.specs.declared.machine.Stage.TheVariants.{TakeCell}
 use Rattle.ring_machine.specs.declared.place.Op.{Op}
 use Rattle.ring_machine.specs.declared.place.Op.TheVariants.{Load, Store}
 use Rattle.ring_machine.specs.declared.place.Place.TheVariants.{Cell, Mask, Read, Write}
 use Rattle.ring_machine.specs.declared.place.Ring.{Ring}
 use Rattle.ring_machine.specs.declared.state.EndState.{EndState}
 use Rattle.ring_machine.specs.Places.{out_of}
-use Rattle.ring_machine.specs.States.{afters, copied_after, copied_at, got_after, pages_after}
+use Rattle.ring_machine.specs.States.{afters, got_after, pages_after}
 use Rattle.ring_machine.specs.Steps.{fed, is_busy_at, next_at}
 use Rattle.ring_pair_laws.proofs.Sides.{fed_side}
 use Rattle.ring_call_plan.specs.declared.end.SendPlan.{SendPlan}
 use Rattle.ring_call_plan.proofs.Parts.{true_is}
 use Rattle.ring_call_plan_laws.specs.Accesses.{Access, AreStepsFrom, answers, loaded, stores_after}
 use Rattle.ring_call_plan_laws.specs.Whole.{raise_after, send_stores}
-use Rattle.ring_call_plan_laws.proofs.Walks.{busy_by}
+use Rattle.ring_call_plan_laws.proofs.Walks.{busy_by, copied_over}
 
 -- the step stores a write index, and so sends a packet; or it loads a cell
 abbrev commits : Option Op → Bool
@@ -87,15 +87,6 @@ send_makes p k y q v x w false true = let h = stores_make p k y q v in ((refl, (
 send_makes p k y q v x w false false = let h = stores_make p k y q v in ((refl, h.0), h.1)
 
 -- an end that isn't in a call copies nothing
-none_at : (st : Stage) (xs : List ℕ) → is_busy_at st ≡ false → copied_at st xs ≡ []
-none_at TakeCell xs n = absurd (cc)
-none_at _ xs n = refl
-
-copied_over : (st : Stage) (m : EndMachine) (xs : List ℕ) (v : ℕ) → is_busy_at m.stage ≡ false → copied_after st m xs v ≡ []
-copied_over TakeFirst m xs v n = none_at m.stage (v ∷ []) n
-copied_over TakeCell m xs v n = none_at m.stage (xs ++ v ∷ []) n
-copied_over _ m xs v n = refl
-
 pub clear_after : (s : EndState) (vs : List ℕ) → s.copied ≡ [] → is_busy_at (afters s vs).machine.stage ≡ false → (afters s vs).copied ≡ []
 clear_after s [] c n = c
 clear_after s (v ∷ vs) c n = copied_over (afters s vs).machine.stage (fed (afters s vs).machine v) (afters s vs).copied v n

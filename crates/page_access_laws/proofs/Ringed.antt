@@ -1,5 +1,5 @@
 -- Whole calls of the rings by an end with data pages.
-use Rattle.std.proofs.Common.{◌≡◌, ◌≢◌, inl, inr, ℕ, ◌+◌, ◌*◌, ◌%◌, ◌<◌, ◌≤◌, ◌^◌, ◌==◌, Bool, true, false, ◌&&◌, cond, eqb, leb, ltb, nat_le, List, [], ◌∷◌, ◌++◌, length, Option, Some, None, refl, sym, ap, ◌∙◌, subst, arith}
+use Rattle.std.proofs.Common.{◌≡◌, ◌≢◌, inl, inr, ℕ, ◌+◌, ◌*◌, ◌%◌, ◌≤◌, ◌==◌, Bool, true, false, ◌&&◌, cond, eqb, leb, ltb, List, [], ◌∷◌, ◌++◌, length, Option, Some, None, refl, sym, ap, ◌∙◌, subst, arith}
 use Rattle.std.specs.Prelude.{slice_index}
 use Rattle.std.proofs.lemmas.Bool.Decides.{nat_tests}
 use Rattle.io_edge.specs.declared.side.Side.{Side}
@@ -15,23 +15,18 @@ use Rattle.ring_machine.specs.declared.place.Op.TheVariants.{Store, TakeSignal}
 use Rattle.ring_machine.specs.declared.state.EndState.{EndState}
 use Rattle.ring_machine.specs.Places.{cell_of, in_of, is_index, len8_of, offset8_of, out_of, peer_of}
 use Rattle.ring_machine.specs.States.{after, afters, entered, Begins}
-use Rattle.ring_machine.specs.Steps.{is_busy_at, next_of, arm_begun, send_begun, take_begun}
+use Rattle.ring_machine.specs.Steps.{is_busy_at, next_of, send_begun, take_begun}
 use Rattle.ring_call_plan.specs.declared.end.PlanEnd.{PlanEnd as RingEnd}
 use Rattle.ring_call_plan.specs.Answers.{found_work, found_work_room, woke, woke_room}
-use Rattle.ring_call_plan.specs.Numbers.{armed_says, arm_end, begin_says, can_arm, commit_end, commit_index, given_says, has_length, has_offset, has_room, head_says, is_at, is_formed, polled_says, send_end, send_plan_of, send_says, sent_says, take_at, take_end, take_plan_of, take_says}
-use Rattle.ring_call_plan.specs.Numbers.{sent_end as ring_sent_end}
+use Rattle.ring_call_plan.specs.Numbers.{armed_says, arm_end, commit_end, commit_index, given_says, has_length, has_offset, has_room, head_says, is_at, is_formed, polled_says, send_end, send_plan_of, sent_says, take_at, take_end, take_plan_of, take_says}
 use Rattle.ring_call_plan.specs.Shown.{feds}
 use Rattle.ring_call_plan.specs.Shown.{Shows as RingShows}
-use Rattle.ring_call_plan.proofs.Parts.{asleep_at, state_is, true_is}
+use Rattle.ring_call_plan.proofs.Parts.{asleep_at, state_is}
 use Rattle.ring_call_plan.proofs.PlanLaws.{feeds_state}
 use Rattle.ring_call_plan_laws.specs.Accesses.{Access, AreStepsFrom, answers, loaded, loads_after, made}
 use Rattle.ring_call_plan_laws.specs.Whole.{PlanCall, SendCall, TakeCall, CommitCall, ArmCall, PollCall, MarkCall, IsHeard, accesses, answer_of, arm_looks, arm_stores, begins_as, begun_by, end_of, packet_by, raise_after, send_stores, wakes_after}
-use Rattle.ring_call_plan_laws.proofs.Walks.{Walk, steps_from}
-use Rattle.ring_call_plan_laws.proofs.Sending.{send_walk}
-use Rattle.ring_call_plan_laws.proofs.Taking.{take_walk}
-use Rattle.ring_call_plan_laws.proofs.Committing.{commit_walk, mark_walk}
-use Rattle.ring_call_plan_laws.proofs.Sleeping.{arm_walk}
-use Rattle.ring_call_plan_laws.proofs.Polling.{poll_walk}
+use Rattle.ring_call_plan_laws.proofs.Walks.{Walk, steps_from, true_by}
+use Rattle.ring_call_plan_laws.proofs.Wholes.{walks}
 use Rattle.page_call_plan.specs.declared.end.PageEnd.{PageEnd}
 use Rattle.page_call_plan.specs.Answers.{page_due, planned, took}
 use Rattle.page_call_plan.specs.Causes.{AllFit, TookAnswer, NoPage, PageCame}
@@ -54,42 +49,6 @@ ring_after s (a ∷ acts) = ap (λ (t : EndState). after t a.gave) (ring_after s
 ring_allowed : (s : EndState) (acts : List Access) → AreStepsFrom s acts → AreAllowed s (of_ring acts)
 ring_allowed s [] h = tt
 ring_allowed s (a ∷ acts) h = (ap (λ (t : EndState). next_of t.machine t.packet) (ring_after s acts) ∙ h.0, ring_allowed s acts h.1)
-
-true_by : (b : Bool) (x : ℕ) → cond b x 0 ≢ 0 → b ≡ true
-true_by true x h = refl
-true_by false x h = absurd (h refl)
-
--- what a send makes, leaves and answers, by the answer to its plan
-abbrev send_made : Side → RingEnd → List ℕ → ℕ → ℕ → ℕ → ℕ → ℕ → List Access
-send_made y e p k v x w a =
-    cond (a == 19) (raise_after y (sent_says (send_end e k v) x w == 2) (cond (x == 0) (loaded (Read (out_of y)) w ∷ loaded (Mask (out_of y)) x ∷ send_stores y (send_plan_of e k) p v) (loaded (Mask (out_of y)) x ∷ send_stores y (send_plan_of e k) p v))) (loaded (Read (out_of y)) v ∷ [])
-
-abbrev send_left : RingEnd → ℕ → ℕ → ℕ → RingEnd
-send_left e k v a = cond (a == 19) (ring_sent_end (send_end e k v)) (send_end e k v)
-
-abbrev send_answer : RingEnd → ℕ → ℕ → ℕ → ℕ → ℕ → ℕ
-send_answer e k v x w a = cond (a == 19) (sent_says (send_end e k v) x w) a
-
--- the accesses of a call are steps of the machine
-module _ (e : RingEnd) (m : EndMachine) (h : RingShows e m) where
-  send_walks : (p : List ℕ) (v x w : ℕ) → begin_says e (slice_index p 0) v ≢ 0 → length p ≡ len8_of (slice_index p 0) → x < 2 ^ 32 → w < 2 ^ 32
-      → Walk (send_begun m (length p)) p (accesses m.side e (SendCall p v x w)) (end_of e (SendCall p v x w)) (answer_of e (SendCall p v x w))
-  send_walks p v x w used size small small' =
-      let k : ℕ = len8_of (slice_index p 0) in
-      let form : has_offset (slice_index p 0) ≡ true = true_by (has_offset (slice_index p 0)) (send_says e k v) used in
-      let is : begin_says e (slice_index p 0) v ≡ send_says e k v = true_is (has_offset (slice_index p 0)) _ _ form in
-      let walk : Walk (send_begun m k) p (send_made m.side e p k v x w (send_says e k v)) (send_left e k v (send_says e k v)) (send_answer e k v x w (send_says e k v)) =
-      send_walk e m p k v x w h size small small' (λ z. used (is ∙ z)) in
-      subst (λ (a : ℕ). Walk (send_begun m (length p)) p (send_made m.side e p k v x w a) (send_left e k v a) (send_answer e k v x w a)) (sym is)
-      (subst (λ (n : ℕ). Walk (send_begun m n) p (send_made m.side e p k v x w (send_says e k v)) (send_left e k v (send_says e k v)) (send_answer e k v x w (send_says e k v))) (sym size) walk)
-
-  pub walks : (c : PlanCall) → begins_as e c ≢ 0 → IsHeard e c → Walk (begun_by m c) (packet_by c) (accesses m.side e c) (end_of e c) (answer_of e c)
-  walks (SendCall p v x w) used heard = send_walks p v x w used heard.0 heard.1 heard.2
-  walks (TakeCall v head ws) used heard = take_walk e m v head ws h used heard
-  walks (CommitCall f q v) used heard = commit_walk e m f q v h heard.0 heard.1 heard.2 (true_by (is_at 0 e) 19 used)
-  walks (ArmCall want w i k) used heard = arm_walk e m want w i k h heard (true_by (can_arm e want) 19 used)
-  walks (PollCall v) used heard = poll_walk e m v h (true_by (is_at 6 e) (cond (v == 0) 14 (cond (e.want == 0) 15 21)) used)
-  walks MarkCall used heard = mark_walk e m h (true_by (is_at 0 e) 19 used)
 
 -- what the calls that touch no page make of the pages
 raise_makes : (p : List ℕ) (k : Kept) (y : Side) (b : Bool) (acts : List Access) → Makes p k acts k → Makes p k (raise_after y b acts) k
@@ -140,19 +99,12 @@ packet_form h (v ∷ ws) = let r = packet_form h ws in (first_of (taken_of h ws)
     first_of (x ∷ xs) v l = refl
 
 packet_by_parts : (p : List ℕ) → 2 ≤ length p → len8_of (slice_index p 0) ≡ length p → 2 ≤ offset8_of (slice_index p 0) → offset8_of (slice_index p 0) ≤ len8_of (slice_index p 0) → is_packet p ≡ true
-packet_by_parts p two size past inside =
-    both (nat_le 2 (length p)) _ (grind (arith, nat_tests, two)) (both (len8_of (slice_index p 0) == length p) _ (grind (arith, nat_tests, size)) (both (nat_le 2 (offset8_of (slice_index p 0))) _ (grind (arith, nat_tests, past)) (grind (arith, nat_tests, inside))))
-  where
-    both : (b c : Bool) → b ≡ true → c ≡ true → (b && c) ≡ true
-    both true c e f = f
-    both false c e f = e
+packet_by_parts p two size past inside = grind (arith, nat_tests, two, size, past, inside)
 
 -- what a planned head has
 head_parts : (a b c : Bool) → cond a (cond b (cond {A = ℕ} c 19 9) 8) 0 ≡ 19 → (b ≡ true) × (c ≡ true)
 head_parts true true true h = (refl, refl)
-head_parts true true false h = absurd (cc)
-head_parts true false c h = absurd (cc)
-head_parts false b c h = absurd (cc)
+head_parts _ _ _ h = absurd (cc)
 
 two_words : (h n : ℕ) → (leb 2 (len8_of h) && ltb (len8_of h) n) ≡ true → 2 ≤ len8_of h
 two_words h n t = grind (arith, nat_tests, t)
@@ -162,16 +114,12 @@ offset_in h t = ((grind (arith, nat_tests, t)), (grind (arith, nat_tests, t)))
 
 -- a refusal isn't a take
 not_first : (a b c : Bool) → (cond a (cond b (cond {A = ℕ} c 6 19) 7) 0 == 19) ≡ false → (cond a (cond b (cond {A = ℕ} c 6 19) 7) 0 == 5) ≡ false
-not_first true true true h = refl
 not_first true true false h = absurd (cc)
-not_first true false c h = refl
-not_first false b c h = refl
+not_first _ _ _ h = refl
 
 not_head : (a b c : Bool) → (cond a (cond b (cond {A = ℕ} c 19 9) 8) 0 == 19) ≡ false → (cond a (cond b (cond {A = ℕ} c 19 9) 8) 0 == 5) ≡ false
 not_head true true true h = absurd (cc)
-not_head true true false h = refl
-not_head true false c h = refl
-not_head false b c h = refl
+not_head _ _ _ h = refl
 
 no_state : (o : Option Loan) → (end_due o).state ≡ 0
 no_state None = refl
@@ -205,15 +153,8 @@ module _ (s : EndState) (z : PagedEnd) (sh : IsShown z s) where
     exact : IsExact y s.got s.pages z.asks → ((t : ℕ) → back t (part_of y got kept) ≤ asked t (part_of y got kept)) → IsExact y got kept r.asks
 
   side_begun : (c : PlanCall) → (begun_by s.machine c).side ≡ y
-  side_begun (SendCall p v x w) = refl
-  side_begun (TakeCall v h ws) = refl
-  side_begun (CommitCall f q v) = refl
-  side_begun (ArmCall want w r k) = arm_side (want == 0)
-    where
-      arm_side : (b : Bool) → (arm_begun s.machine want).side ≡ y
-      arm_side b = refl
-  side_begun (PollCall v) = refl
   side_begun MarkCall = refl
+  side_begun _ = refl
 
   -- a call of the rings, whose accesses are steps, is one with these pages
   whole : (c : PlanCall) → Begins s (begun_by s.machine c) (packet_by c) → Walk (begun_by s.machine c) (packet_by c) (accesses y z.ring c) (end_of z.ring c) (answer_of z.ring c) → Leaves c (ring_left z c) → IsPagedCall s z (RingCall c)
@@ -240,19 +181,21 @@ module _ (s : EndState) (z : PagedEnd) (sh : IsShown z s) where
             (subst (λ (u : Side × List (List ℕ) × Kept). IsExactIn s z.asks → ((i : ℕ) → back i (part_of u.0 u.1 u.2) ≤ asked i (part_of u.0 u.1 u.2)) → IsExact u.0 u.1 u.2 (ring_left z c).asks) (λ i. (sym side i, sym l.got_is i, sym l.pages_are i)) l.exact);
       }
 
-  planned_shows : Shows y s.got s.pages (end_at 4 z.pages) z.slots z.asks z.owed
-  planned_shows = record { count = sh.pages.count; owners = sh.pages.owners; due = sh.pages.due; asks_of = sh.pages.asks_of; owed_of = sh.pages.owed_of }
+  -- the numbers of the pages stay, at this state of a page call
+  numbered : (k : ℕ) → Shows y s.got s.pages (end_at k z.pages) z.slots z.asks z.owed
+  numbered k = record { count = sh.pages.count; owners = sh.pages.owners; due = sh.pages.due; asks_of = sh.pages.asks_of; owed_of = sh.pages.owed_of }
 
-  -- the numbers of the pages stay, up to the state that was planned
-  at_rest : Shows y s.got s.pages (end_at 0 z.pages) z.slots z.asks z.owed
-  at_rest = record { count = sh.pages.count; owners = sh.pages.owners; due = sh.pages.due; asks_of = sh.pages.asks_of; owed_of = sh.pages.owed_of }
+  -- a call that changes no page, and gets no packet
+  same_left : (c : PlanCall) → (afters (entered s (begun_by s.machine c) (packet_by c)) (answers (accesses y z.ring c))).pages ≡ s.pages → (afters (entered s (begun_by s.machine c) (packet_by c)) (answers (accesses y z.ring c))).got ≡ s.got
+      → (e : PageEnd) → e.state ≡ 0 → Shows y s.got s.pages e z.slots z.asks z.owed → Leaves c (with_ring (end_of z.ring c) e z)
+  same_left c pages got e idle shows = record { kept = s.pages; got = s.got; pages_are = pages; got_is = got; ring = refl; shows = shows; idle = idle; call = sh.call; fit = sh.fit; exact = λ x most. x }
 
   -- a call that touches no page
   still : (c : PlanCall) → AreStepsFrom (entered s (begun_by s.machine c) (packet_by c)) (accesses y z.ring c) → Makes (packet_by c) s.pages (accesses y z.ring c) s.pages → (e : PageEnd) → e.state ≡ 0 → Shows y s.got s.pages e z.slots z.asks z.owed
       → Leaves c (with_ring (end_of z.ring c) e z)
   still c steps h e idle shows =
       let m = makes (entered s (begun_by s.machine c) (packet_by c)) (accesses y z.ring c) steps h.0 in
-      record { kept = s.pages; got = s.got; pages_are = m.0 ∙ h.1; got_is = m.1; ring = refl; shows = shows; idle = idle; call = sh.call; fit = sh.fit; exact = λ x most. x }
+      same_left c (m.0 ∙ h.1) m.1 e idle shows
 
   -- a send
   module _ (p : List ℕ) (v x w : ℕ) (lets : PagesLet z (SendCall p v x w)) (steps : AreStepsFrom (entered s (send_begun s.machine (length p)) p) (accesses y z.ring (SendCall p v x w))) where
@@ -291,18 +234,7 @@ module _ (s : EndState) (z : PagedEnd) (sh : IsShown z s) where
       fit = sent_fit z.slots p sh.fit;
       exact = λ e most. sends_exact y s.got s.pages z.pages z.slots z.asks z.owed sh.pages 0 p lets e;
     }
-    sends_by false h = record {
-      kept = s.pages;
-      got = s.got;
-      pages_are = sent_pages.0 ∙ ap (λ (b : Bool). cond b (pages_sent (layout s.pages.count) s.pages p) s.pages) h;
-      got_is = sent_pages.1;
-      ring = refl;
-      shows = at_rest;
-      idle = refl;
-      call = sh.call;
-      fit = sh.fit;
-      exact = λ e most. e;
-    }
+    sends_by false h = same_left send (sent_pages.0 ∙ ap (λ (b : Bool). cond b (pages_sent (layout s.pages.count) s.pages p) s.pages) h) sent_pages.1 (end_at 0 z.pages) refl (numbered 0)
 
     sends : Leaves send (ring_left z send)
     sends = sends_by (begins_as z.ring send == planned) refl
@@ -324,18 +256,8 @@ module _ (s : EndState) (z : PagedEnd) (sh : IsShown z s) where
     -- none was taken
     none_took : (acts : List Access) → accesses y z.ring take ≡ acts → (answer_of z.ring take == took) ≡ false → (afters base (answers acts)).pages ≡ s.pages → (afters base (answers acts)).got ≡ s.got → Leaves take (ring_left z take)
     none_took acts is other pages got =
-        subst (λ (b : Bool). Leaves take (cond b (took_end (end_of z.ring take) p z) (with_ring (end_of z.ring take) (end_at 0 z.pages) z))) (sym other) record {
-          kept = s.pages;
-          got = s.got;
-          pages_are = ap (λ (a : List Access). (afters base (answers a)).pages) is ∙ pages;
-          got_is = ap (λ (a : List Access). (afters base (answers a)).got) is ∙ got;
-          ring = refl;
-          shows = at_rest;
-          idle = refl;
-          call = sh.call;
-          fit = sh.fit;
-          exact = λ e most. e;
-        }
+        subst (λ (b : Bool). Leaves take (cond b (took_end (end_of z.ring take) p z) (with_ring (end_of z.ring take) (end_at 0 z.pages) z))) (sym other)
+        (same_left take (ap (λ (a : List Access). (afters base (answers a)).pages) is ∙ pages) (ap (λ (a : List Access). (afters base (answers a)).got) is ∙ got) (end_at 0 z.pages) refl (numbered 0))
 
     -- one was taken
     it_took : take_says z.ring v ≡ 19 → head_says (take_end z.ring v) h ≡ 19 → (answer_of z.ring take == took) ≡ true → accesses y z.ring take ≡ loads_after two (in_of y) (take_plan_of (take_end z.ring v) h).at (take_plan_of (take_end z.ring v) h).first ws
@@ -370,13 +292,13 @@ module _ (s : EndState) (z : PagedEnd) (sh : IsShown z s) where
         exact_by : IsExact y s.got s.pages z.asks → ((t : ℕ) → back t (part_of y (s.got ++ p ∷ []) (pages_took (layout s.pages.count) s.pages p)) ≤ asked t (part_of y (s.got ++ p ∷ []) (pages_took (layout s.pages.count) s.pages p)))
             → TookAnswer (pages_took (layout s.pages.count) s.pages p) (took_says (end_at 4 z.pages) z.slots z.owed p) → IsExact y (s.got ++ p ∷ []) (pages_took (layout s.pages.count) s.pages p) (asks_took z.asks p)
         exact_by e most (NoPage a d) =
-            takes_exact y s.got s.pages (end_at 4 z.pages) z.slots z.asks z.owed planned_shows p took call_took ids_took a e (λ g. takes_open y s.got s.pages (end_at 4 z.pages) z.slots z.asks z.owed planned_shows p took call_took ids_took a g (most (id_of p)))
+            takes_exact y s.got s.pages (end_at 4 z.pages) z.slots z.asks z.owed (numbered 4) p took call_took ids_took a e (λ g. takes_open y s.got s.pages (end_at 4 z.pages) z.slots z.asks z.owed (numbered 4) p took call_took ids_took a g (most (id_of p)))
         exact_by e most (PageCame q n a d i j l) =
-            takes_exact y s.got s.pages (end_at 4 z.pages) z.slots z.asks z.owed planned_shows p page_due call_due ids_due a e (λ g. takes_open y s.got s.pages (end_at 4 z.pages) z.slots z.asks z.owed planned_shows p page_due call_due ids_due a g (most (id_of p)))
+            takes_exact y s.got s.pages (end_at 4 z.pages) z.slots z.asks z.owed (numbered 4) p page_due call_due ids_due a e (λ g. takes_open y s.got s.pages (end_at 4 z.pages) z.slots z.asks z.owed (numbered 4) p page_due call_due ids_due a g (most (id_of p)))
 
         shows_by : TookAnswer (pages_took (layout s.pages.count) s.pages p) (took_says (end_at 4 z.pages) z.slots z.owed p) → Shows y (s.got ++ p ∷ []) (pages_took (layout s.pages.count) s.pages p) (took_end (end_of z.ring take) p z).pages (took_end (end_of z.ring take) p z).slots (took_end (end_of z.ring take) p z).asks (took_end (end_of z.ring take) p z).owed
-        shows_by (NoPage a d) = takes_show y s.got s.pages (end_at 4 z.pages) z.slots z.asks z.owed planned_shows p took call_took ids_took a
-        shows_by (PageCame q n a d i j l) = takes_show y s.got s.pages (end_at 4 z.pages) z.slots z.asks z.owed planned_shows p page_due call_due ids_due a
+        shows_by (NoPage a d) = takes_show y s.got s.pages (end_at 4 z.pages) z.slots z.asks z.owed (numbered 4) p took call_took ids_took a
+        shows_by (PageCame q n a d i j l) = takes_show y s.got s.pages (end_at 4 z.pages) z.slots z.asks z.owed (numbered 4) p page_due call_due ids_due a
 
     abbrev first_answer : ℕ
     first_answer = take_says z.ring v

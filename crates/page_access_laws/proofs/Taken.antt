@@ -31,16 +31,14 @@ copying m h j = record m { stage = TakeCell; len = len8_of h; done = j }
 waits_by : (a b : Bool) (m : EndMachine) (v : ℕ)
     → 19 ≡ said (cond a (cond b (record (ends (take_begun m) Empty) { drained = m.drained || m.peer_marked }) (waiting m v)) (breaks (take_begun m) BadIndex (low v)))
     → cond a (cond b (record (ends (take_begun m) Empty) { drained = m.drained || m.peer_marked }) (waiting m v)) (breaks (take_begun m) BadIndex (low v)) ≡ waiting m v
-waits_by true true m v h = absurd (apart 19 6 refl h)
 waits_by true false m v h = refl
-waits_by false b m v h = absurd (apart 19 7 refl h)
+waits_by _ _ m v h = absurd (cc)
 
 copies_by : (a b : Bool) (m : EndMachine) (h i : ℕ)
     → 19 ≡ said (cond a (cond b (copying m h 1) (breaks m BadOffset i)) (breaks m BadLength i))
     → cond a (cond b (copying m h 1) (breaks m BadOffset i)) (breaks m BadLength i) ≡ copying m h 1
 copies_by true true m h i e = refl
-copies_by true false m h i e = absurd (apart 19 9 refl e)
-copies_by false b m h i e = absurd (apart 19 8 refl e)
+copies_by _ _ m h i e = absurd (cc)
 
 module _ (e : PlanEnd) (m : EndMachine) (v : ℕ) (s : Shows e m) (says : take_says e v ≡ 19) where
   tb : TakeBegun m v (take_says e v) (take_end e v) (take_at e v 0)

@@ -16,7 +16,7 @@ use Rattle.ring_machine.specs.States.{after, entered}
 use Rattle.ring_machine.specs.Steps.{is_busy_at, next_of}
 use Rattle.ring_core.specs.Told.{answer_in}
 use Rattle.ring_seat.specs.PageRule.{ring_words}
-use Rattle.ring_seat.specs.Rule.{ChannelInvariant, with_end}
+use Rattle.ring_seat.specs.Rule.{with_end}
 use Rattle.ring_seat.specs.Whole.{WholeRule}
 use Rattle.ring_seat.proofs.Loading.{newest_is}
 use Rattle.ring_seat.proofs.WholeLaws.{call_keeps, load_keeps_all, step_keeps, store_keeps_all}
@@ -24,6 +24,7 @@ use Rattle.ring_call_plan_laws.specs.Plays.{Channel}
 use Rattle.ring_seat.specs.PageRule.{keeper_of}
 use Rattle.ring_seat.proofs.WholeLaws.{part_of as part_at}
 use Rattle.ring_loan_rule.proofs.Reading.{says}
+use Rattle.ring_call_plan_laws.proofs.Channels.{here, there, own_side}
 use Rattle.page_call_plan.specs.Shown.{part_of}
 use Rattle.page_access_laws.specs.Calls.{IsExactIn, BacksAsked, PagedEnd, IsShown, PagedCall, RingCall, StoreCall, LoadCall, IsHeardBy, IsLet, IsPagedCall, PagedAccess, OfRing, StoresWord, LoadsWord, AreAllowed, IsAllowed, BeginsIn, accesses_by, after_all, begun_in, left_by}
 use Rattle.page_access_laws.specs.Turns.{IsLawfulPaged, IsPlayed, PagedTurn, Own, PeerStep, PeerCall, PeerStores, PeerLoads, opened_by, own_of, played}
@@ -34,19 +35,6 @@ pub is_call : (s : EndState) (z : PagedEnd) (a : PagedCall) → IsShown z s → 
 is_call s z (RingCall c) sh lets heard = ring_call s z sh c lets.0 lets.1 heard
 is_call s z (StoreCall q w vs) sh lets heard = store_call s z sh q w vs lets
 is_call s z (LoadCall vs) sh lets heard = load_call s z sh vs lets heard
-
--- the end at a side after one is put there, or at the other side
-here : (x : Side) (t : EndState) (ends : Side → EndState) → with_end x t ends x ≡ t
-here Guest t ends = refl
-here Host t ends = refl
-
-there : (x : Side) (t : EndState) (ends : Side → EndState) → with_end (peer_of x) t ends x ≡ ends x
-there Guest t ends = refl
-there Host t ends = refl
-
-own_side : (n : ℕ) (ws : List ℕ) (ends : Side → EndState) (x : Side) → ChannelInvariant n ws ends → (ends x).machine.side ≡ x
-own_side n ws ends Guest i = i.channel.guest_fits.side
-own_side n ws ends Host i = i.channel.host_fits.side
 
 idle_by : (st : Stage) → is_busy_at st ≡ false → st ≢ Stopped → st ≡ Idle
 idle_by Idle n h = refl
@@ -144,9 +132,8 @@ module _ (n c : ℕ) (x : Side) (w : Channel) (z : PagedEnd) (a : PagedCall) (so
     where
       by_side : (u y : Side) → with_end u (w.ends u) w.ends y ≡ w.ends y
       by_side Guest Guest = refl
-      by_side Guest Host = refl
       by_side Host Guest = refl
-      by_side Host Host = refl
+      by_side _ _ = refl
 
   opened : (b : PagedCall) → BeginsIn (w.ends x) b → IsLawfulPaged n c (opened_by x b w)
   opened (RingCall d) begins = call_keeps n c x w.words w.ends _ _ some rule begins
@@ -163,14 +150,13 @@ module _ (n c : ℕ) (x : Side) (w : Channel) (z : PagedEnd) (a : PagedCall) (so
   keeps_rule turns rest p is =
       (all_kept n c x base some (opened_by x a w) (opened a call.begins) (here x base w.ends) turns p (front_allowed base rest (own_of turns) (subst (AreAllowed base) (sym is) steps))).rule
 
-  pub ends_so : (turns : List PagedTurn) → IsPlayed n c x (opened_by x a w) turns → own_of turns ≡ accesses_by x z a → IsShown (left_by z a) ((played n x (opened_by x a w) turns).ends x)
-  ends_so turns p is =
+  ends_at : (turns : List PagedTurn) → IsPlayed n c x (opened_by x a w) turns → own_of turns ≡ accesses_by x z a → after_all base (accesses_by (w.ends x).machine.side z a) ≡ (played n x (opened_by x a w) turns).ends x
+  ends_at turns p is =
       let k = all_kept n c x base some (opened_by x a w) (opened a call.begins) (here x base w.ends) turns p (subst (AreAllowed base) (sym is) steps) in
-      subst (IsShown (left_by z a))
-      (ap (λ (y : Side). after_all base (accesses_by y z a)) side_is ∙ (ap (after_all base) (sym is) ∙ sym k.state)) call.shows
+      ap (λ (y : Side). after_all base (accesses_by y z a)) side_is ∙ (ap (after_all base) (sym is) ∙ sym k.state)
 
-  after_rule : (turns : List PagedTurn) → IsPlayed n c x (opened_by x a w) turns → own_of turns ≡ accesses_by x z a → IsLawfulPaged n c (played n x (opened_by x a w) turns)
-  after_rule turns p is = keeps_rule turns [] p is
+  pub ends_so : (turns : List PagedTurn) → IsPlayed n c x (opened_by x a w) turns → own_of turns ≡ accesses_by x z a → IsShown (left_by z a) ((played n x (opened_by x a w) turns).ends x)
+  ends_so turns p is = subst (IsShown (left_by z a)) (ends_at turns p is) call.shows
 
   -- a lawful peer completes no request twice
   backs : (v : Channel) → IsLawfulPaged n c v → (t : ℕ) → back t (part_of (v.ends x).machine.side (v.ends x).got (v.ends x).pages) ≤ asked t (part_of (v.ends x).machine.side (v.ends x).got (v.ends x).pages)
@@ -183,7 +169,4 @@ module _ (n c : ℕ) (x : Side) (w : Channel) (z : PagedEnd) (a : PagedCall) (so
       omega (arith, j, k, l)
 
   pub exact_so : (turns : List PagedTurn) → IsPlayed n c x (opened_by x a w) turns → own_of turns ≡ accesses_by x z a → IsExactIn (w.ends x) z.asks → IsExactIn ((played n x (opened_by x a w) turns).ends x) (left_by z a).asks
-  exact_so turns p is e =
-      let k = all_kept n c x base some (opened_by x a w) (opened a call.begins) (here x base w.ends) turns p (subst (AreAllowed base) (sym is) steps) in
-      let same : after_all base (accesses_by (w.ends x).machine.side z a) ≡ (played n x (opened_by x a w) turns).ends x = ap (λ (y : Side). after_all base (accesses_by y z a)) side_is ∙ (ap (after_all base) (sym is) ∙ sym k.state) in
-      subst (λ (t : EndState). BacksAsked t → IsExactIn t (left_by z a).asks) same (call.exact e) (backs (played n x (opened_by x a w) turns) (after_rule turns p is))
+  exact_so turns p is e = subst (λ (t : EndState). BacksAsked t → IsExactIn t (left_by z a).asks) (ends_at turns p is) (call.exact e) (backs (played n x (opened_by x a w) turns) (keeps_rule turns [] p is))

@@ -6,6 +6,7 @@ use Rattle.page_kept.specs.declared.due.Due.{Due}
 use Rattle.page_kept.specs.declared.due.Due.TheVariants.{Clear, Loads}
 use Rattle.page_kept.specs.declared.kept.Kept.{Kept}
 use Rattle.page_kept.specs.declared.item.Item.{Item}
+use Rattle.page_kept.specs.declared.page_call.PageCall.{PageCall}
 use Rattle.page_kept.specs.Counts.{count, is_ask}
 use Rattle.page_kept.specs.Items.{item_of, packets, values}
 use Rattle.page_call_plan.specs.declared.ids.IdSlot.{IdSlot}
@@ -36,13 +37,13 @@ pub stores_are : (s : EndState) (before : List PagedAccess) (q w : ℕ) (vs : Li
 stores_are s before q w [] = refl
 stores_are s before q w (v ∷ vs) = stores_are s (StoresWord q w v ∷ before) q (w + 1) vs
 
-stores_call : (k : Kept) (q w : ℕ) (vs : List ℕ) → (stores k q w vs).call ≡ k.call
-stores_call k q w [] = refl
-stores_call k q w (v ∷ vs) = stores_call (page_stored k q w v) q (w + 1) vs
+-- the call that is under way, and the packets that were sent
+abbrev frame_of : Kept → PageCall × List Item
+frame_of k = (k.call, k.sent)
 
-stores_sent : (k : Kept) (q w : ℕ) (vs : List ℕ) → (stores k q w vs).sent ≡ k.sent
-stores_sent k q w [] = refl
-stores_sent k q w (v ∷ vs) = stores_sent (page_stored k q w v) q (w + 1) vs
+stores_frame : (k : Kept) (q w : ℕ) (vs : List ℕ) → frame_of (stores k q w vs) ≡ frame_of k
+stores_frame k q w [] = refl
+stores_frame k q w (v ∷ vs) = stores_frame (page_stored k q w v) q (w + 1) vs
 
 -- numbers stay exact where no packet is sent or taken
 exact_same : (x : Side) (got : List (List ℕ)) (k k' : Kept) (asks : List IdSlot) → k'.sent ≡ k.sent → IsExact x got k asks → IsExact x got k' asks
@@ -58,10 +59,10 @@ store_call s z sh q w vs lets = record {
     between = sh.between;
     idle = refl;
     copied = sh.copied;
-    call = stores_call s.pages q w vs ∙ sh.call;
+    call = ap (λ (f : PageCall × List Item). f.0) (stores_frame s.pages q w vs) ∙ sh.call;
     fit = sh.fit;
   };
-  exact = subst (λ (u : EndState). IsExactIn s z.asks → BacksAsked u → IsExactIn u z.asks) (sym (stores_are s [] q w vs)) (λ e most. exact_same s.machine.side s.got s.pages (stores s.pages q w vs) z.asks (stores_sent s.pages q w vs) e);
+  exact = subst (λ (u : EndState). IsExactIn s z.asks → BacksAsked u → IsExactIn u z.asks) (sym (stores_are s [] q w vs)) (λ e most. exact_same s.machine.side s.got s.pages (stores s.pages q w vs) z.asks (ap (λ (f : PageCall × List Item). f.1) (stores_frame s.pages q w vs)) e);
 }
 
 -- a run of loads
@@ -75,29 +76,17 @@ by_count : (b : Bool) (k : Kept) (p : List ℕ) (q n j v : ℕ) → (loaded_by b
 by_count true k p q n j v = refl
 by_count false k p q n j v = refl
 
-by_call : (b : Bool) (k : Kept) (p : List ℕ) (q n j v : ℕ) → (loaded_by b k p q n j v).call ≡ k.call
-by_call true k p q n j v = refl
-by_call false k p q n j v = refl
+by_frame : (b : Bool) (k : Kept) (p : List ℕ) (q n j v : ℕ) → frame_of (loaded_by b k p q n j v) ≡ frame_of k
+by_frame true k p q n j v = refl
+by_frame false k p q n j v = refl
 
-call_at : (d : Due) (k : Kept) (p : List ℕ) (v : ℕ) → (page_loaded_at d k p v).call ≡ k.call
-call_at Clear k p v = refl
-call_at (Loads q n j) k p v = by_call (ltb (j + 1) n) k p q n j v
+frame_at : (d : Due) (k : Kept) (p : List ℕ) (v : ℕ) → frame_of (page_loaded_at d k p v) ≡ frame_of k
+frame_at Clear k p v = refl
+frame_at (Loads q n j) k p v = by_frame (ltb (j + 1) n) k p q n j v
 
-by_sent : (b : Bool) (k : Kept) (p : List ℕ) (q n j v : ℕ) → (loaded_by b k p q n j v).sent ≡ k.sent
-by_sent true k p q n j v = refl
-by_sent false k p q n j v = refl
-
-sent_at : (d : Due) (k : Kept) (p : List ℕ) (v : ℕ) → (page_loaded_at d k p v).sent ≡ k.sent
-sent_at Clear k p v = refl
-sent_at (Loads q n j) k p v = by_sent (ltb (j + 1) n) k p q n j v
-
-loads_sent : (k : Kept) (p vs : List ℕ) → (loads k p vs).sent ≡ k.sent
-loads_sent k p [] = refl
-loads_sent k p (v ∷ vs) = loads_sent (page_loaded k p v) p vs ∙ sent_at k.due k p v
-
-loads_call : (k : Kept) (p vs : List ℕ) → (loads k p vs).call ≡ k.call
-loads_call k p [] = refl
-loads_call k p (v ∷ vs) = loads_call (page_loaded k p v) p vs ∙ call_at k.due k p v
+loads_frame : (k : Kept) (p vs : List ℕ) → frame_of (loads k p vs) ≡ frame_of k
+loads_frame k p [] = refl
+loads_frame k p (v ∷ vs) = loads_frame (page_loaded k p v) p vs ∙ frame_at k.due k p v
 
 pub loads_allowed : (s : EndState) (before : List PagedAccess) (q n j : ℕ) (vs : List ℕ) → AreAllowed s before → is_busy_at (after_all s before).machine.stage ≡ false → (0 < length vs → (after_all s before).pages.due ≡ Loads q n j)
     → q < (after_all s before).pages.count → length vs + j ≤ n → n ≤ 512 → AreAllowed s (loads_on before q j vs)
@@ -143,9 +132,9 @@ load_call s z sh vs lets size =
         between = sh.between;
         idle = refl;
         copied = sh.copied;
-        call = loads_call s.pages (newest s.got) vs ∙ sh.call;
+        call = ap (λ (f : PageCall × List Item). f.0) (loads_frame s.pages (newest s.got) vs) ∙ sh.call;
         fit = sh.fit;
       };
       exact = subst (λ (u : EndState). IsExactIn s z.asks → BacksAsked u → IsExactIn u z.asks) (sym (loads_are s [] z.pages.due_page 0 vs))
-          (λ e most. exact_same s.machine.side s.got s.pages (loads s.pages (newest s.got) vs) z.asks (loads_sent s.pages (newest s.got) vs) e);
+          (λ e most. exact_same s.machine.side s.got s.pages (loads s.pages (newest s.got) vs) z.asks (ap (λ (f : PageCall × List Item). f.1) (loads_frame s.pages (newest s.got) vs)) e);
     }

@@ -1,22 +1,18 @@
 -- A call whose plan was given isn't refused where it is done.
-use Rattle.std.proofs.Common.{◌≡◌, ◌≢◌, ℕ, ◌*◌, ◌<◌, ◌%◌, ◌==◌, Bool, true, false, cond, eqb, refl, sym, ap, ◌∙◌, arith}
+use Rattle.std.proofs.Common.{◌≡◌, ◌≢◌, ℕ, ◌*◌, ◌<◌, ◌%◌, ◌==◌, true, cond, eqb, refl, sym, ap, ◌∙◌, arith}
 use Rattle.std.specs.Prelude.{slice_index}
 use Rattle.std.proofs.lemmas.Bool.Decides.{nat_tests}
 use Rattle.ring_machine.specs.Places.{is_index, cell_of, len8_of}
-use Rattle.ring_machine.proofs.Sound.{cell_below}
+use Rattle.ring_machine.proofs.Sound.{at_cond, cell_below}
 use Rattle.ring_call_plan.specs.declared.end.PlanEnd.{PlanEnd}
 use Rattle.ring_call_plan.specs.Numbers.{is_at, is_formed, is_full, can_send, can_arm, can_end_send, has_offset, has_length, gives_room, finds_work, begin_says, send_says, send_end, sent_says, take_says, take_end, head_says, commit_says, commit_end, given_says, arm_end, armed_says}
 use Rattle.ring_call_plan.proofs.Parts.{apart, true_is, false_is, state_is}
 use Rattle.ring_call_plan_laws.specs.Whole.{PlanCall, SendCall, TakeCall, CommitCall, ArmCall, PollCall, MarkCall, begins_as, answer_of}
-use Rattle.ring_call_plan_laws.proofs.Walks.{kept_form, form_parts}
+use Rattle.ring_call_plan_laws.proofs.Walks.{true_by, kept_form}
 use Rattle.ring_call_plan_laws.proofs.Sending.{goes_on, planned_end, ends_says, some_end}
 use Rattle.ring_call_plan_laws.proofs.Taking.{planned_take, head_word, some_head}
 use Rattle.ring_call_plan_laws.proofs.Committing.{given_word, some_given}
-use Rattle.ring_call_plan_laws.proofs.Sleeping.{arm_form, arm_word, some_arm}
-
-true_by : (b : Bool) (x : ℕ) → cond b x 0 ≢ 0 → b ≡ true
-true_by true x h = refl
-true_by false x h = absurd (h refl)
+use Rattle.ring_call_plan_laws.proofs.Sleeping.{arm_word, some_arm}
 
 sent_some : (e : PlanEnd) (k v x w : ℕ) → send_says e k v ≡ 19 → sent_says (send_end e k v) x w ≡ 0 → ⊥
 sent_some e k v x w says zero =
@@ -38,10 +34,7 @@ given_some : (e : PlanEnd) (f q v : ℕ) → is_at 0 e ≡ true → given_says (
 given_some e f q v can zero =
     let on : PlanEnd = record e { len = 0; state = 4 } in
     let is : commit_end e ≡ on = true_is (is_at 0 e) _ _ can in
-    let formed : is_formed e ≡ true = (state_is e 0 (is_formed e) can).1 in
-    let p = form_parts e formed in
-    let below = p.0 in
-    let form : is_at 4 on ≡ true = kept_form e e.seen 0 formed p.2 (omega (arith, below)) in
+    let form : is_at 4 on ≡ true = grind (arith, nat_tests, can) in
     some_given (eqb (f % 2) 1) (eqb q 0) (gives_room on q v)
     (sym (ap (λ (u : PlanEnd). given_says u f q v) is ∙ true_is (is_at 4 on) (given_word (eqb (f % 2) 1) (eqb q 0) (gives_room on q v)) 0 form) ∙ zero)
 
@@ -49,27 +42,16 @@ armed_some : (e : PlanEnd) (want w r k : ℕ) → can_arm e want ≡ true → ar
 armed_some e want w r k can zero =
     let on : PlanEnd = record e { len = 0; want = want; state = 5 } in
     let is : arm_end e want ≡ on = true_is (can_arm e want) _ _ can in
-    let formed : is_formed e ≡ true = arm_form e want can in
-    let p = form_parts e formed in
-    let below = p.0 in
-    let form : is_at 5 on ≡ true = kept_form e e.seen 0 formed p.2 (omega (arith, below)) in
+    let form : is_at 5 on ≡ true = grind (arith, nat_tests, can) in
     some_arm (finds_work on w r k) (eqb want 0)
     (sym (ap (λ (u : PlanEnd). armed_says u w r k) is ∙ true_is (is_at 5 on) (arm_word (finds_work on w r k) (eqb want 0)) 0 form) ∙ zero)
 
 -- of an answer to a plan and what comes behind it
 goes_by : (a b : ℕ) → a ≢ 0 → (a ≡ 19 → b ≡ 0 → ⊥) → cond (a == 19) b a ≢ 0
-goes_by a b used later z = by_test (eqb a 19) refl z
-  where
-    by_test : (t : Bool) → eqb a 19 ≡ t → cond t b a ≡ 0 → ⊥
-    by_test true h y = later (grind (arith, nat_tests, h)) y
-    by_test false h y = used y
+goes_by a b used later = at_cond (λ (t : ℕ). t ≢ 0) (eqb a 19) b a (λ h. later (grind (arith, nat_tests, h))) (λ h. used)
 
 took_or : (a : ℕ) → (a ≡ 0 → ⊥) → cond (a == 19) 5 a ≡ 0 → ⊥
-took_or a some z = by_test (eqb a 19) z
-  where
-    by_test : (t : Bool) → cond t 5 a ≡ 0 → ⊥
-    by_test true y = apart 5 0 refl y
-    by_test false y = some y
+took_or a some = at_cond (λ (t : ℕ). t ≢ 0) (eqb a 19) 5 a (λ h y. cc) (λ h. some)
 
 pub carried : (e : PlanEnd) (c : PlanCall) → begins_as e c ≢ 0 → answer_of e c ≢ 0
 carried e (SendCall p v x w) used =

@@ -18,11 +18,11 @@ use Rattle.ring_call_plan_laws.specs.Plays.{Channel, IsLawfulChannel, IsPlayed, 
 use Rattle.ring_call_plan_laws.proofs.Wholes.{is_call}
 
 -- the end at a side after one is put there, or at the other side
-here : (x : Side) (t : EndState) (ends : Side → EndState) → with_end x t ends x ≡ t
+pub here : (x : Side) (t : EndState) (ends : Side → EndState) → with_end x t ends x ≡ t
 here Guest t ends = refl
 here Host t ends = refl
 
-there : (x : Side) (t : EndState) (ends : Side → EndState) → with_end (peer_of x) t ends x ≡ ends x
+pub there : (x : Side) (t : EndState) (ends : Side → EndState) → with_end (peer_of x) t ends x ≡ ends x
 there Guest t ends = refl
 there Host t ends = refl
 
@@ -31,7 +31,7 @@ front_steps : (s : EndState) (rest acts : List Access) → AreStepsFrom s (rest 
 front_steps s [] acts h = h
 front_steps s (a ∷ rest) acts h = front_steps s rest acts h.1
 
-own_side : (n : ℕ) (ws : List ℕ) (ends : Side → EndState) (x : Side) → ChannelInvariant n ws ends → (ends x).machine.side ≡ x
+pub own_side : (n : ℕ) (ws : List ℕ) (ends : Side → EndState) (x : Side) → ChannelInvariant n ws ends → (ends x).machine.side ≡ x
 own_side n ws ends Guest i = i.channel.guest_fits.side
 own_side n ws ends Host i = i.channel.host_fits.side
 

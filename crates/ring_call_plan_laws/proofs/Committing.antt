@@ -8,31 +8,25 @@ use Rattle.ring_machine.specs.declared.machine.Ending.TheVariants.{CommittedQuie
 use Rattle.ring_machine.specs.declared.place.Place.TheVariants.{Write, Read, Pending, Feature}
 use Rattle.ring_machine.specs.declared.place.Op.TheVariants.{Store, Raise, StoreMark}
 use Rattle.ring_machine.specs.Places.{in_of, peer_of}
-use Rattle.ring_machine.specs.Steps.{next_of, commit_begun, mark_begun, is_busy_at}
+use Rattle.ring_machine.specs.Steps.{next_of, commit_begun, mark_begun}
 use Rattle.ring_call_plan.specs.declared.end.PlanEnd.{PlanEnd}
 use Rattle.ring_call_plan.specs.Answers.{number_of_ending}
-use Rattle.ring_call_plan.specs.Numbers.{is_at, is_formed, commit_says, commit_end, commit_index, gives_room, given_says, given_end, marked_end}
+use Rattle.ring_call_plan.specs.Numbers.{is_at, commit_says, commit_end, commit_index, gives_room, given_says, given_end, marked_end}
 use Rattle.ring_call_plan.specs.Plans.{CommitBegun, CommitEnded, MarkSaid, heard}
 use Rattle.ring_call_plan.specs.Shown.{Shows, feds}
-use Rattle.ring_call_plan.proofs.Parts.{apart, true_is, state_is}
+use Rattle.ring_call_plan.proofs.Parts.{apart, true_is}
 use Rattle.ring_call_plan.proofs.Commits.{begun_as, ended_as}
 use Rattle.ring_call_plan.proofs.Sleeps.{said_as}
 use Rattle.ring_call_plan_laws.specs.Accesses.{Access, loaded, made, answers}
 use Rattle.ring_call_plan_laws.specs.Whole.{plain, raise_after, commit_accesses}
-use Rattle.ring_call_plan_laws.proofs.Walks.{AreMachineSteps, Walk, kept_form, form_parts, over_by}
-
-pub can_by : (b : Bool) → cond {A = ℕ} b 19 0 ≢ 0 → b ≡ true
-can_by true h = refl
-can_by false h = absurd (h refl)
+use Rattle.ring_call_plan_laws.proofs.Walks.{AreMachineSteps, Walk, walk_by, over_by}
 
 abbrev pub given_word : Bool → Bool → Bool → ℕ
 given_word a b c = cond a (cond b 10 (cond c 11 10)) 10
 
 pub some_given : (a b c : Bool) → given_word a b c ≡ 0 → ⊥
-some_given true true c h = apart 10 0 refl h
-some_given true false true h = apart 11 0 refl h
-some_given true false false h = apart 10 0 refl h
-some_given false b c h = apart 10 0 refl h
+some_given true false true h = cc
+some_given _ _ _ h = cc
 
 module _ (e : PlanEnd) (m : EndMachine) (f q v : ℕ) (s : Shows e m) (small : f < 2 ^ 32) (small' : q < 2 ^ 32) (small'' : v < 2 ^ 32) (can : is_at 0 e ≡ true) where
   abbrev y : Side
@@ -44,11 +38,8 @@ module _ (e : PlanEnd) (m : EndMachine) (f q v : ℕ) (s : Shows e m) (small : f
   on_is : commit_end e ≡ on
   on_is = true_is (is_at 0 e) _ _ can
 
-  form : is_formed e ≡ true
-  form = (state_is e 0 (is_formed e) can).1
-
   on_at : is_at 4 on ≡ true
-  on_at = let p = form_parts e form in let below = p.0 in kept_form e e.seen 0 form p.2 (omega (arith, below))
+  on_at = grind (arith, nat_tests, can)
 
   used : commit_says e ≢ 0
   used z = apart 19 0 refl (sym (true_is (is_at 0 e) _ _ can) ∙ z)
@@ -94,14 +85,7 @@ module _ (e : PlanEnd) (m : EndMachine) (f q v : ℕ) (s : Shows e m) (small : f
 
   ended : (acts : List Access) (us : List ℕ) (a : ℕ) (how : Ending) → AreMachineSteps (commit_begun m) [] acts → us ≡ answers acts → Shows (given_end on) (feds (commit_begun m) us) × ((feds (commit_begun m) us).ended ≡ how)
       → plain a ≡ number_of_ending how → Walk (commit_begun m) [] acts (given_end on) a
-  ended acts us a how steps same t says' =
-      let is : feds (commit_begun m) us ≡ feds (commit_begun m) (answers acts) = ap (feds (commit_begun m)) same in
-      record {
-        steps = steps;
-        shows = subst (Shows (given_end on)) is t.0;
-        over = ap (λ (j : EndMachine). is_busy_at j.stage) (sym is) ∙ over_by (given_end on) (feds (commit_begun m) us) 0 t.0 rest_state refl;
-        says = says' ∙ ap number_of_ending (sym t.1) ∙ ap (λ (j : EndMachine). number_of_ending j.ended) is;
-      }
+  ended acts us a how steps same t says' = walk_by _ _ acts (given_end on) (feds (commit_begun m) us) a 0 how steps (ap (feds (commit_begun m)) (sym same)) t rest_state refl says'
 
   by_tests : (a b c : Bool) → eqb (f % 2) 1 ≡ a → eqb q 0 ≡ b → gives_room on q v ≡ c → Walk (commit_begun m) [] (raise_after y (given_word a b c == 11) (cond a (cond b two three) one)) (given_end on) (given_word a b c)
   by_tests false b c h g o = ended one (heard f q v 0) 10 CommittedQuiet one_steps (heard_by false b h g) (ce.quiet (says_by false b c h g o) 0) refl

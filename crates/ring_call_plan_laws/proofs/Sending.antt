@@ -1,18 +1,18 @@
 -- A whole send by plans.
-use Rattle.std.proofs.Common.{◌≡◌, ◌≢◌, ℕ, zero, suc, ◌+◌, ◌*◌, ◌<◌, ◌≤◌, ◌^◌, ◌==◌, Bool, true, false, cond, leb, eqb, List, [], ◌∷◌, length, Some, refl, sym, ap, ◌∙◌, subst, arith}
+use Rattle.std.proofs.Common.{◌≡◌, ◌≢◌, ℕ, zero, suc, ◌+◌, ◌*◌, ◌<◌, ◌≤◌, ◌^◌, ◌==◌, Bool, true, false, cond, eqb, List, [], ◌∷◌, length, Some, refl, sym, ap, ◌∙◌, subst, arith}
 use Rattle.std.specs.Prelude.{slice_index}
 use Rattle.std.proofs.lemmas.Bool.Decides.{nat_tests}
 use Rattle.io_edge.specs.declared.side.Side.{Side}
 use Rattle.ring_machine.specs.declared.machine.EndMachine.{EndMachine}
-use Rattle.ring_machine.specs.declared.machine.Stage.TheVariants.{SendCell}
 use Rattle.ring_machine.specs.declared.machine.Ending.{Ending}
-use Rattle.ring_machine.specs.declared.machine.Ending.TheVariants.{Full, BadPeer, SentQuiet, SentRaised}
+use Rattle.ring_machine.specs.declared.machine.Ending.TheVariants.{SentQuiet, SentRaised}
 use Rattle.ring_machine.specs.declared.place.Ring.{Ring}
 use Rattle.ring_machine.specs.declared.place.Place.TheVariants.{Write, Read, Mask, Cell}
 use Rattle.ring_machine.specs.declared.place.Op.TheVariants.{Load, Store, Raise}
-use Rattle.ring_machine.specs.Places.{out_of, peer_of, is_index, cell_of, free, low, ahead}
-use Rattle.ring_machine.specs.Steps.{fed, ends, breaks, next_of, send_begun, is_busy_at}
+use Rattle.ring_machine.specs.Places.{out_of, peer_of, is_index, cell_of, ahead}
+use Rattle.ring_machine.specs.Steps.{fed, next_of, send_begun}
 use Rattle.ring_machine.proofs.Sound.{cell_below}
+use Rattle.ring_pair_laws.proofs.Sides.{fed_side}
 use Rattle.ring_call_plan.specs.declared.end.PlanEnd.{PlanEnd}
 use Rattle.ring_call_plan.specs.declared.end.SendPlan.{SendPlan}
 use Rattle.ring_call_plan.specs.Answers.{number_of_ending}
@@ -23,7 +23,7 @@ use Rattle.ring_call_plan.proofs.Parts.{true_is, false_is, apart}
 use Rattle.ring_call_plan.proofs.Sends.{send_ready, fits_parts, begun, ended_as}
 use Rattle.ring_call_plan_laws.specs.Accesses.{Access, loaded, made, answers, stores_after}
 use Rattle.ring_call_plan_laws.specs.Whole.{plain, send_stores, raise_after}
-use Rattle.ring_call_plan_laws.proofs.Walks.{AreMachineSteps, Walk, both, kept_form, said_over, over_by}
+use Rattle.ring_call_plan_laws.proofs.Walks.{AreMachineSteps, Walk, walk_by, both, kept_form, said_over}
 
 -- the stores of the packet's words, from the machine that goes on after the accesses before
 fed_on : (m : EndMachine) (before : List Access) (r : Ring) (at first : ℕ) (p : List ℕ) (j : ℕ) → feds m (answers (stores_after before r at first p j)) ≡ feds (feds m (answers before)) (answers (stores_after [] r at first p j))
@@ -54,24 +54,19 @@ goes_on e k v can index =
     both _ _ (kept_form e (cell_of v) k r.1 (cell_below e.cells v index) (omega (arith, room))) (grind (arith, nat_tests, room))
 
 pub planned_end : (b c d : Bool) → cond b (cond c (cond {A = ℕ} d 3 19) 4) 0 ≡ 19 → (b ≡ true) × (c ≡ true) × (d ≡ false)
-planned_end true true true h = absurd (apart 3 19 refl h)
 planned_end true true false h = (refl, refl, refl)
-planned_end true false d h = absurd (apart 4 19 refl h)
-planned_end false c d h = absurd (apart 0 19 refl h)
+planned_end _ _ _ h = absurd (cc)
 
 same_plan : (b c d : Bool) (q : SendPlan) → cond b (cond c (cond d q q) q) q ≡ q
 same_plan true true true q = refl
-same_plan true true false q = refl
-same_plan true false d q = refl
-same_plan false c d q = refl
+same_plan _ _ _ q = refl
 
 abbrev pub ends_says : Bool → Bool → ℕ
 ends_says a b = cond a (cond b 2 1) 1
 
 pub some_end : (b c : Bool) → ends_says b c ≡ 0 → ⊥
-some_end true true z = apart 2 0 refl z
-some_end true false z = apart 1 0 refl z
-some_end false c z = apart 1 0 refl z
+some_end true true z = cc
+some_end _ _ z = cc
 
 module _ (e : PlanEnd) (m : EndMachine) (p : List ℕ) (k v x w : ℕ) (s : Shows e m) (size : length p ≡ k) (small : x < 2 ^ 32) (small' : w < 2 ^ 32) (says : send_says e k v ≡ 19) where
   abbrev y : Side
@@ -99,13 +94,7 @@ module _ (e : PlanEnd) (m : EndMachine) (p : List ℕ) (k v x w : ℕ) (s : Show
   by = subst (StoresBy began p) (same_plan (can_send e k) (is_index e.cells v) (is_full e k v) (send_plan_of e k)) (sb.stores says p size)
 
   side : began.side ≡ y
-  side = side_of (is_index m.cells v) (leb (free m.cells (cell_of v) m.write) (k + 1))
-    where
-      side_of : (b c : Bool)
-          → (cond b (cond c (record (ends (send_begun m k) Full) { seen = cell_of v; room = free m.cells (cell_of v) m.write; words = k }) (record (send_begun m k) { stage = SendCell; seen = cell_of v; done = 0 })) (breaks (send_begun m k) BadPeer (low v))).side ≡ m.side
-      side_of true true = refl
-      side_of true false = refl
-      side_of false c = refl
+  side = fed_side (send_begun m k) v (send_begun m k).stage
 
   abbrev q : SendPlan
   q = send_plan_of e k
@@ -180,12 +169,7 @@ module _ (e : PlanEnd) (m : EndMachine) (p : List ℕ) (k v x w : ℕ) (s : Show
 
   ended : (acts : List Access) (us : List ℕ) (a : ℕ) (how : Ending) → AreMachineSteps (send_begun m k) p acts → feds (send_begun m k) (answers acts) ≡ feds began us → Shows (sent_end on) (feds began us) × ((feds began us).ended ≡ how)
       → plain a ≡ number_of_ending how → Walk (send_begun m k) p acts (sent_end on) a
-  ended acts us a how steps is t says' = record {
-    steps = steps;
-    shows = subst (Shows (sent_end on)) (sym is) t.0;
-    over = ap (λ (j : EndMachine). is_busy_at j.stage) is ∙ over_by (sent_end on) (feds began us) 0 t.0 rest_state refl;
-    says = says' ∙ ap number_of_ending (sym t.1) ∙ ap (λ (j : EndMachine). number_of_ending j.ended) (sym is);
-  }
+  ended acts us a how steps is t says' = walk_by _ _ acts (sent_end on) (feds began us) a 0 how steps is t rest_state refl says'
 
   by_tests : (b c : Bool) → eqb x 0 ≡ b → eqb w (8 * e.write) ≡ c → Walk (send_begun m k) p (raise_after y (ends_says b c == 2) (cond b looked masked)) (sent_end on) (ends_says b c)
   by_tests true true h g =
@@ -218,9 +202,7 @@ stopped_walk e m p k v s used other =
   where
     plain_by : (b c d : Bool) → plain (cond b (cond c (cond d 3 19) 4) 0) ≡ cond b (cond c (cond d 3 19) 4) 0
     plain_by true true true = refl
-    plain_by true true false = refl
-    plain_by true false d = refl
-    plain_by false c d = refl
+    plain_by _ _ _ = refl
 
 pub send_walk : (e : PlanEnd) (m : EndMachine) (p : List ℕ) (k v x w : ℕ) → Shows e m → length p ≡ k → x < 2 ^ 32 → w < 2 ^ 32 → send_says e k v ≢ 0
     → Walk (send_begun m k) p

@@ -1,31 +1,25 @@
 -- A whole arm by plans.
-use Rattle.std.proofs.Common.{◌≡◌, ◌≢◌, ◌⊎◌, inl, inr, ℕ, ◌*◌, ◌<◌, ◌^◌, Bool, true, false, ◌&&◌, ◌||◌, not, cond, leb, ltb, eqb, List, [], ◌∷◌, length, Some, refl, sym, ap, ◌∙◌, subst, arith}
+use Rattle.std.proofs.Common.{◌≡◌, ◌≢◌, ◌⊎◌, inl, inr, ℕ, ◌*◌, ◌<◌, ◌^◌, Bool, true, false, ◌||◌, not, cond, eqb, List, [], ◌∷◌, length, Some, refl, sym, ap, ◌∙◌, subst, arith}
 use Rattle.std.proofs.lemmas.Bool.Decides.{nat_tests}
 use Rattle.io_edge.specs.declared.side.Side.{Side}
 use Rattle.ring_machine.specs.declared.machine.EndMachine.{EndMachine}
-use Rattle.ring_machine.specs.declared.machine.Ending.{Ending}
 use Rattle.ring_machine.specs.declared.machine.Ending.TheVariants.{FellAsleep, FoundWork}
 use Rattle.ring_machine.specs.declared.place.Place.TheVariants.{Write, Read, Mask, Pending, Mark}
 use Rattle.ring_machine.specs.declared.place.Op.TheVariants.{Load, Store}
 use Rattle.ring_machine.specs.Places.{in_of, out_of, peer_of}
-use Rattle.ring_machine.specs.Steps.{next_of, arm_begun, is_busy_at}
+use Rattle.ring_machine.specs.Steps.{next_of, arm_begun}
 use Rattle.ring_call_plan.specs.declared.end.PlanEnd.{PlanEnd}
-use Rattle.ring_call_plan.specs.Answers.{number_of_ending}
 use Rattle.ring_call_plan.specs.Numbers.{is_at, is_formed, can_arm, arm_says, arm_end, has_room, finds_work, armed_says, armed_end}
 use Rattle.ring_call_plan.specs.Plans.{ArmBegun, ArmEnded, listened}
 use Rattle.ring_call_plan.specs.Shown.{Shows, feds}
-use Rattle.ring_call_plan.proofs.Parts.{apart, true_is, false_is, state_is}
+use Rattle.ring_call_plan.proofs.Parts.{apart, true_is, false_is}
 use Rattle.ring_call_plan.proofs.Sleeps.{begun_as, ended_as}
 use Rattle.ring_call_plan_laws.specs.Accesses.{Access, loaded, made, answers}
-use Rattle.ring_call_plan_laws.specs.Whole.{plain, wakes_after, arm_stores, arm_looks}
-use Rattle.ring_call_plan_laws.proofs.Walks.{AreMachineSteps, Walk, is_resting, kept_form, form_parts, over_by}
+use Rattle.ring_call_plan_laws.specs.Whole.{wakes_after, arm_stores, arm_looks}
+use Rattle.ring_call_plan_laws.proofs.Walks.{AreMachineSteps, Walk, walk_by}
 
 pub arm_form : (e : PlanEnd) (want : ℕ) → can_arm e want ≡ true → is_formed e ≡ true
-arm_form e want h = by_test (is_at 0 e) refl h
-  where
-    by_test : (t : Bool) → is_at 0 e ≡ t → (t && (eqb e.start e.read && (eqb want 0 || (leb 24 want && ltb want (8 * e.cells))))) ≡ true → is_formed e ≡ true
-    by_test true i j = (state_is e 0 (is_formed e) i).1
-    by_test false i j = absurd (cc)
+arm_form e want h = grind (arith, nat_tests, h)
 
 abbrev works_in : Bool → Bool → Bool → Bool → Bool
 works_in a b c d = cond a (cond b (not d) (c || not d)) true
@@ -34,9 +28,8 @@ abbrev pub arm_word : Bool → Bool → ℕ
 arm_word f b = cond f (cond b 13 20) 12
 
 pub some_arm : (f b : Bool) → arm_word f b ≡ 0 → ⊥
-some_arm true true h = apart 13 0 refl h
-some_arm true false h = apart 20 0 refl h
-some_arm false b h = apart 12 0 refl h
+some_arm true true h = cc
+some_arm _ _ h = cc
 
 not_zero : (n : ℕ) → eqb n 0 ≡ false → n ≢ 0
 not_zero n h z = let t : eqb n 0 ≡ true = grind (arith, nat_tests, z) in let no : true ≡ false = sym t ∙ h in cc
@@ -51,11 +44,8 @@ module _ (e : PlanEnd) (m : EndMachine) (want w r k : ℕ) (s : Shows e m) (smal
   on_is : arm_end e want ≡ on
   on_is = true_is (can_arm e want) _ _ can
 
-  form : is_formed e ≡ true
-  form = arm_form e want can
-
   on_at : is_at 5 on ≡ true
-  on_at = let p = form_parts e form in let below = p.0 in kept_form e e.seen 0 form p.2 (omega (arith, below))
+  on_at = grind (arith, nat_tests, can)
 
   used : arm_says e want ≢ 0
   used z = apart 19 0 refl (sym (true_is (can_arm e want) _ _ can) ∙ z)
@@ -123,33 +113,21 @@ module _ (e : PlanEnd) (m : EndMachine) (want w r k : ℕ) (s : Shows e m) (smal
     seen_steps : AreMachineSteps began [] seen
     seen_steps = looks_steps (eqb w (8 * e.read)) (eqb want 0) (has_room on r) refl refl refl
 
-    ended : (acts : List Access) (us : List ℕ) (a st : ℕ) (how : Ending) → AreMachineSteps began [] acts → answers acts ≡ us → Shows after (feds began us) × ((feds began us).ended ≡ how) → after.state ≡ st → (is_resting st ≡ true)
-        → plain a ≡ number_of_ending how → Walk began [] acts after a
-    ended acts us a st how steps' is t state rests says' = record {
-      steps = steps';
-      shows = subst (λ (xs : List ℕ). Shows after (feds began xs)) (sym is) t.0;
-      over = ap (λ (xs : List ℕ). is_busy_at (feds began xs).stage) is ∙ over_by after (feds began us) st t.0 state rests;
-      says = says' ∙ ap number_of_ending (sym t.1) ∙ ap (λ (xs : List ℕ). number_of_ending (feds began xs).ended) (sym is);
-    }
-
     mask_step : (armed_says on w r k ≡ 13) ⊎ (armed_says on w r k ≡ 20) → next_of (feds began (answers seen)) [] ≡ Some (Store (Mask (in_of y)) 1)
     mask_step one = ap (λ (us : List ℕ). next_of (feds began us) []) seen_heard ∙ ae.mask one []
 
     state_in : (f : Bool) → finds_work on w r k ≡ f → after.state ≡ cond f 0 6
-    state_in f h = ap (λ (u : PlanEnd). u.state) after_is ∙ state_by f h
-      where
-        state_by : (t : Bool) → finds_work on w r k ≡ t → (cond (finds_work on w r k) (record on { want = 0; state = 0 }) (record on { state = 6 })).state ≡ cond t 0 6
-        state_by true i = ap (λ (u : PlanEnd). u.state) (true_is (finds_work on w r k) (record on { want = 0; state = 0 }) (record on { state = 6 }) i)
-        state_by false i = ap (λ (u : PlanEnd). u.state) (false_is (finds_work on w r k) (record on { want = 0; state = 0 }) (record on { state = 6 }) i)
+    state_in true h = ap (λ (u : PlanEnd). u.state) (after_is ∙ true_is (finds_work on w r k) _ _ h)
+    state_in false h = ap (λ (u : PlanEnd). u.state) (after_is ∙ false_is (finds_work on w r k) _ _ h)
 
     by_tests : (f b : Bool) → finds_work on w r k ≡ f → eqb want 0 ≡ b → armed_says on w r k ≡ arm_word f b → Walk began [] (wakes_after y 13 20 (arm_word f b) seen) after (arm_word f b)
-    by_tests false b h g is = ended seen heard 12 6 FellAsleep seen_steps seen_heard (ae.sleeps is) (state_in false h) refl refl
+    by_tests false b h g is = walk_by _ _ seen after (feds began heard) 12 6 FellAsleep seen_steps (ap (feds began) seen_heard) (ae.sleeps is) (state_in false h) refl refl
     by_tests true true h g is =
-        ended (made (Store (Mask (in_of y)) 1) ∷ seen) (0 ∷ heard) 13 0 FoundWork (mask_step (inl is), seen_steps) (ap (λ (us : List ℕ). 0 ∷ us) seen_heard) (ae.works is 0) (state_in true h) refl refl
+        walk_by _ _ (made (Store (Mask (in_of y)) 1) ∷ seen) after (feds began (0 ∷ heard)) 13 0 FoundWork (mask_step (inl is), seen_steps) (ap (λ (us : List ℕ). feds began (0 ∷ us)) seen_heard) (ae.works is 0) (state_in true h) refl refl
     by_tests true false h g is =
-        ended (made (Store (Pending (out_of y)) 0) ∷ made (Store (Mask (in_of y)) 1) ∷ seen) (0 ∷ 0 ∷ heard) 20 0 FoundWork
+        walk_by _ _ (made (Store (Pending (out_of y)) 0) ∷ made (Store (Mask (in_of y)) 1) ∷ seen) after (feds began (0 ∷ 0 ∷ heard)) 20 0 FoundWork
         (ap (λ (us : List ℕ). next_of (feds began (0 ∷ us)) []) seen_heard ∙ ae.pending is 0 [], (mask_step (inr is), seen_steps))
-        (ap (λ (us : List ℕ). 0 ∷ 0 ∷ us) seen_heard) (ae.works_room is 0 0) (state_in true h) refl refl
+        (ap (λ (us : List ℕ). feds began (0 ∷ 0 ∷ us)) seen_heard) (ae.works_room is 0 0) (state_in true h) refl refl
 
     on_walk : Walk began [] (wakes_after y 13 20 (armed_says on w r k) (arm_looks y on w r k stores)) after (armed_says on w r k)
     on_walk = subst (λ (a : ℕ). Walk began [] (wakes_after y 13 20 a seen) after a) (sym word_is) (by_tests (finds_work on w r k) (eqb want 0) refl refl word_is)

@@ -1,51 +1,29 @@
 -- A whole call stops its end by its cause.
-use Rattle.std.proofs.Common.{◌≡◌, ℕ, Bool, true, false, cond, eqb, List, refl, sym, ap, ◌∙◌, subst}
+use Rattle.std.proofs.Common.{◌≡◌, ℕ, true, eqb, List, refl, sym, ap, ◌∙◌, subst, arith}
+use Rattle.std.proofs.lemmas.Bool.Decides.{nat_tests}
 use Rattle.ring_machine.specs.declared.machine.EndMachine.{EndMachine}
 use Rattle.ring_machine.specs.declared.machine.Stage.{Stage}
-use Rattle.ring_machine.specs.declared.machine.Stage.TheVariants.{Idle, Stopped, ArmPending, ArmMask}
+use Rattle.ring_machine.specs.declared.machine.Stage.TheVariants.{Stopped}
 use Rattle.ring_machine.specs.declared.last.Why.{Why}
 use Rattle.ring_machine.specs.declared.state.EndState.{EndState}
 use Rattle.ring_machine.specs.Endings.{why_of}
 use Rattle.ring_machine.specs.States.{entered}
 use Rattle.ring_machine.specs.Steps.{is_busy_at}
+use Rattle.ring_machine.proofs.Sound.{at_cond}
 use Rattle.ring_core.specs.Refused.{BreaksIn}
 use Rattle.ring_core.proofs.Refused.{caused_in, refused_in}
 use Rattle.ring_call_plan.specs.declared.end.PlanEnd.{PlanEnd}
 use Rattle.ring_call_plan.specs.Shown.{state_at}
 use Rattle.ring_call_plan_laws.specs.Accesses.{answers}
-use Rattle.ring_call_plan_laws.specs.Whole.{PlanCall, SendCall, TakeCall, CommitCall, ArmCall, PollCall, MarkCall, IsCallOf, accesses, begun_by, end_of, packet_by}
+use Rattle.ring_call_plan_laws.specs.Whole.{PlanCall, ArmCall, IsCallOf, accesses, begun_by, end_of, packet_by}
 
 stopped_at : (st : Stage) (m : EndMachine) → state_at st m ≡ 1 → st ≡ Stopped
-stopped_at Idle m h = absurd (by_flags m.marked m.asleep h)
-  where
-    by_flags : (a b : Bool) → cond {A = ℕ} a 7 (cond b 6 0) ≡ 1 → ⊥
-    by_flags true b e = cc
-    by_flags false true e = cc
-    by_flags false false e = cc
 stopped_at Stopped m h = refl
-stopped_at ArmPending m h = absurd (by_want (eqb m.want 0) h)
-  where
-    by_want : (b : Bool) → cond {A = ℕ} b 8 5 ≡ 1 → ⊥
-    by_want true e = cc
-    by_want false e = cc
-stopped_at ArmMask m h = absurd (by_want (eqb m.want 0) h)
-  where
-    by_want : (b : Bool) → cond {A = ℕ} b 5 8 ≡ 1 → ⊥
-    by_want true e = cc
-    by_want false e = cc
-stopped_at _ m h = absurd (cc)
+stopped_at _ m h = absurd (grind (arith, nat_tests, h))
 
 begun_busy : (m : EndMachine) (c : PlanCall) → is_busy_at (begun_by m c).stage ≡ true
-begun_busy m (SendCall p v x w) = refl
-begun_busy m (TakeCall v h ws) = refl
-begun_busy m (CommitCall f q v) = refl
-begun_busy m (ArmCall want w r k) = by_want (eqb want 0)
-  where
-    by_want : (b : Bool) → is_busy_at (cond b ArmMask ArmPending) ≡ true
-    by_want true = refl
-    by_want false = refl
-begun_busy m (PollCall v) = refl
-begun_busy m MarkCall = refl
+begun_busy m (ArmCall want w r k) = at_cond (λ (st : Stage). is_busy_at st ≡ true) (eqb want 0) _ _ (λ _. refl) (λ _. refl)
+begun_busy m _ = refl
 
 module _ (s : EndState) (e : PlanEnd) (c : PlanCall) (call : IsCallOf s e c) where
   abbrev base : EndState

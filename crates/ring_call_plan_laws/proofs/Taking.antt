@@ -44,40 +44,31 @@ abbrev three_says : Bool → Bool → Bool → ℕ
 three_says b c d = cond b (cond c (cond d 6 19) 7) 0
 
 pub planned_take : (b c d : Bool) → three_says b c d ≡ 19 → (b ≡ true) × (c ≡ true) × (d ≡ false)
-planned_take true true true h = absurd (apart 6 19 refl h)
 planned_take true true false h = (refl, refl, refl)
-planned_take true false d h = absurd (apart 7 19 refl h)
-planned_take false c d h = absurd (apart 0 19 refl h)
+planned_take _ _ _ h = absurd (cc)
 
 plain_take : (b c d : Bool) → plain (three_says b c d) ≡ three_says b c d
 plain_take true true true = refl
-plain_take true true false = refl
-plain_take true false d = refl
-plain_take false c d = refl
+plain_take _ _ _ = refl
 
 abbrev pub head_word : Bool → Bool → ℕ
 head_word c d = cond c (cond d 19 9) 8
 
 pub some_head : (c d : Bool) → head_word c d ≡ 0 → ⊥
-some_head true true h = apart 19 0 refl h
-some_head true false h = apart 9 0 refl h
-some_head false d h = apart 8 0 refl h
+some_head true true h = cc
+some_head _ _ h = cc
 
 plain_head : (c d : Bool) → plain (head_word c d) ≡ head_word c d
 plain_head true true = refl
-plain_head true false = refl
-plain_head false d = refl
+plain_head _ _ = refl
 
 planned_head : (c d : Bool) → head_word c d ≡ 19 → (c ≡ true) × (d ≡ true)
 planned_head true true h = (refl, refl)
-planned_head true false h = absurd (apart 9 19 refl h)
-planned_head false d h = absurd (apart 8 19 refl h)
+planned_head _ _ h = absurd (cc)
 
 same_plan : (b c d : Bool) (q : TakePlan) → cond b (cond c (cond d q q) q) q ≡ q
 same_plan true true true q = refl
-same_plan true true false q = refl
-same_plan true false d q = refl
-same_plan false c d q = refl
+same_plan _ _ _ q = refl
 
 first_walk : (e : PlanEnd) (m : EndMachine) (v : ℕ) → Shows e m → take_says e v ≢ 0 → eqb (take_says e v) 19 ≡ false → Walk (take_begun m) [] (loaded (Write (in_of m.side)) v ∷ []) (take_end e v) (take_says e v)
 first_walk e m v s used other =

@@ -1,11 +1,9 @@
 -- Accesses that are steps of a machine, and what they leave.
-use Rattle.std.proofs.Common.{◌≡◌, ℕ, ◌+◌, ◌<◌, ◌==◌, Bool, true, false, ◌&&◌, ◌||◌, cond, leb, ltb, eqb, ◌++◌, List, [], ◌∷◌, Some, None, refl, sym, ap, ◌∙◌, subst, arith}
+use Rattle.std.proofs.Common.{◌≡◌, ◌≢◌, ℕ, ◌+◌, ◌<◌, ◌==◌, Bool, true, false, ◌&&◌, ◌||◌, cond, ltb, eqb, ◌++◌, List, [], ◌∷◌, Some, None, refl, sym, ap, ◌∙◌, subst, arith}
 use Rattle.std.proofs.lemmas.Bool.Decides.{nat_tests}
 use Rattle.page_kept.specs.declared.kept.Kept.{Kept}
-use Rattle.page_kept.specs.Kept.{pages_took}
-use Rattle.page_kept.specs.Layouts.{layout}
 use Rattle.ring_machine.specs.declared.machine.Stage.{Stage}
-use Rattle.ring_machine.specs.declared.machine.Stage.TheVariants.{Idle, Stopped, SendWrite, TakeFirst, TakeCell, ArmPending, ArmMask}
+use Rattle.ring_machine.specs.declared.machine.Stage.TheVariants.{Idle, Stopped, SendWrite, TakeFirst, TakeCell}
 use Rattle.ring_machine.specs.declared.machine.Ending.{Ending}
 use Rattle.ring_machine.specs.declared.machine.EndMachine.{EndMachine}
 use Rattle.ring_machine.specs.declared.place.Op.{Op}
@@ -13,6 +11,7 @@ use Rattle.ring_machine.specs.declared.state.EndState.{EndState}
 use Rattle.ring_machine.specs.States.{afters, entered, copied_at, copied_after, pages_after, Begins}
 use Rattle.ring_machine.specs.Steps.{fed, next_of, is_busy_at}
 use Rattle.ring_machine.proofs.Bounds.{rests_none}
+use Rattle.ring_machine.proofs.Sound.{at_cond}
 use Rattle.ring_call_plan.specs.declared.end.PlanEnd.{PlanEnd}
 use Rattle.ring_call_plan.specs.Answers.{number_of_ending}
 use Rattle.ring_call_plan.specs.Numbers.{is_formed}
@@ -28,8 +27,12 @@ abbrev pub AreMachineSteps : EndMachine → List ℕ → List Access → Type 0
 AreMachineSteps m p [] = Unit {0}
 AreMachineSteps m p (a ∷ acts) = (next_of (feds m (answers acts)) p ≡ Some a.op) × AreMachineSteps m p acts
 
-none_some : {op : Op} → None ≡ Some op → ⊥
+pub none_some : {T : Type 0} {x : T} → None ≡ Some x → ⊥
 none_some h = cc
+
+pub true_by : (b : Bool) (x : ℕ) → cond b x 0 ≢ 0 → b ≡ true
+true_by true x h = refl
+true_by false x h = absurd (h refl)
 
 pub busy_by : (m : EndMachine) (p : List ℕ) (op : Op) → next_of m p ≡ Some op → is_busy_at m.stage ≡ true
 busy_by m p op h = by_test (is_busy_at m.stage) refl
@@ -51,11 +54,11 @@ steps_from s (a ∷ acts) h =
     ((λ i. next_of (feeds_state s (answers acts) i) (packet_kept s acts h.1 (busy_by _ _ _ h.0) i)) ∙ h.0, steps_from s acts h.1)
 
 -- an end that isn't in a call copies nothing
-none_at : (st : Stage) (xs : List ℕ) → is_busy_at st ≡ false → copied_at st xs ≡ []
+pub none_at : (st : Stage) (xs : List ℕ) → is_busy_at st ≡ false → copied_at st xs ≡ []
 none_at TakeCell xs n = absurd (cc)
 none_at _ xs n = refl
 
-copied_over : (st : Stage) (m : EndMachine) (xs : List ℕ) (v : ℕ) → is_busy_at m.stage ≡ false → copied_after st m xs v ≡ []
+pub copied_over : (st : Stage) (m : EndMachine) (xs : List ℕ) (v : ℕ) → is_busy_at m.stage ≡ false → copied_after st m xs v ≡ []
 copied_over TakeFirst m xs v n = none_at m.stage (v ∷ []) n
 copied_over TakeCell m xs v n = none_at m.stage (xs ++ v ∷ []) n
 copied_over _ m xs v n = refl
@@ -66,11 +69,7 @@ none_is n e = grind (arith, nat_tests, e)
 
 pages_still : (st : Stage) (m : EndMachine) (k : Kept) (p xs : List ℕ) (v : ℕ) → k.count ≡ 0 → pages_after st m k p xs v ≡ k
 pages_still SendWrite m k p xs v e = true_is (k.count == 0) _ _ (none_is k.count e)
-pages_still TakeCell m k p xs v e = by_last (ltb (m.done + 1) m.len)
-  where
-    by_last : (b : Bool) → cond b k (pages_took (layout k.count) k (xs ++ v ∷ [])) ≡ k
-    by_last true = refl
-    by_last false = true_is (k.count == 0) _ _ (none_is k.count e)
+pages_still TakeCell m k p xs v e = at_cond (λ (j : Kept). j ≡ k) (ltb (m.done + 1) m.len) _ _ (λ _. refl) (λ _. true_is (k.count == 0) _ _ (none_is k.count e))
 pages_still _ m k p xs v e = refl
 
 pages_stay : (s : EndState) (vs : List ℕ) → s.pages.count ≡ 0 → (afters s vs).pages ≡ s.pages
@@ -100,17 +99,7 @@ is_resting k = (k == 0) || ((k == 1) || ((k == 6) || (k == 7)))
 rests_at : (st : Stage) (m : EndMachine) → is_resting (state_at st m) ≡ true → is_busy_at st ≡ false
 rests_at Idle m h = refl
 rests_at Stopped m h = refl
-rests_at ArmPending m h = by_want (eqb m.want 0) h
-  where
-    by_want : (b : Bool) → is_resting (cond b 8 5) ≡ true → is_busy_at ArmPending ≡ false
-    by_want true e = absurd (cc)
-    by_want false e = absurd (cc)
-rests_at ArmMask m h = by_want (eqb m.want 0) h
-  where
-    by_want : (b : Bool) → is_resting (cond b 5 8) ≡ true → is_busy_at ArmMask ≡ false
-    by_want true e = absurd (cc)
-    by_want false e = absurd (cc)
-rests_at _ m h = absurd (cc)
+rests_at _ m h = grind (arith, nat_tests, h)
 
 pub over_by : (e : PlanEnd) (m : EndMachine) (k : ℕ) → Shows e m → e.state ≡ k → is_resting k ≡ true → is_busy_at m.stage ≡ false
 over_by e m k s is h = rests_at m.stage m (ap is_resting (s.state ∙ is) ∙ h)
@@ -127,6 +116,16 @@ pub record Walk (m : EndMachine) (p : List ℕ) (acts : List Access) (e : PlanEn
   pub shows : Shows e (feds m (answers acts))
   pub over : is_busy_at (feds m (answers acts)).stage ≡ false
   pub says : plain a ≡ number_of_ending (feds m (answers acts)).ended
+
+-- the walk of a call, by what was fed to the machine
+pub walk_by : (m : EndMachine) (p : List ℕ) (acts : List Access) (e : PlanEnd) (k : EndMachine) (a st : ℕ) (how : Ending) → AreMachineSteps m p acts → feds m (answers acts) ≡ k → Shows e k × (k.ended ≡ how) → e.state ≡ st → is_resting st ≡ true
+    → plain a ≡ number_of_ending how → Walk m p acts e a
+walk_by m p acts e k a st how steps is t state rests says = record {
+  steps = steps;
+  shows = subst (Shows e) (sym is) t.0;
+  over = ap (λ (j : EndMachine). is_busy_at j.stage) is ∙ over_by e k st t.0 state rests;
+  says = says ∙ ap number_of_ending (sym t.1) ∙ ap (λ (j : EndMachine). number_of_ending j.ended) (sym is);
+}
 
 pub whole_by : (s : EndState) (e : PlanEnd) (c : PlanCall) → AtRest s → Begins s (begun_by s.machine c) (packet_by c)
     → Walk (begun_by s.machine c) (packet_by c) (accesses s.machine.side e c) (end_of e c) (answer_of e c) → IsCallOf s e c
@@ -151,15 +150,4 @@ both true b e f = f
 both false b e f = e
 
 pub kept_form : (e : PlanEnd) (seen len : ℕ) → is_formed e ≡ true → seen < e.cells → len < e.cells → is_formed (record e { seen = seen; len = len }) ≡ true
-kept_form e seen len form below small = parts (leb e.cells 16777216) (ltb e.write e.cells) (ltb e.read e.cells) (ltb e.start e.cells) refl refl refl refl
-  where
-    parts : (a b c d : Bool) → leb e.cells 16777216 ≡ a → ltb e.write e.cells ≡ b → ltb e.read e.cells ≡ c → ltb e.start e.cells ≡ d → is_formed (record e { seen = seen; len = len }) ≡ true
-    parts true true true true f g h i = both _ _ f (both _ _ g (both _ _ h (both _ _ i (both (ltb seen e.cells) (ltb len e.cells) (grind (arith, nat_tests, below)) (grind (arith, nat_tests, small))))))
-    parts false b c d f g h i = absurd (grind (arith, nat_tests, form, f))
-    parts true false c d f g h i = absurd (grind (arith, nat_tests, form, g))
-    parts true true false d f g h i = absurd (grind (arith, nat_tests, form, h))
-    parts true true true false f g h i = absurd (grind (arith, nat_tests, form, i))
-
--- the numbers of an end in form
-pub form_parts : (e : PlanEnd) → is_formed e ≡ true → (e.write < e.cells) × (e.read < e.cells) × (e.seen < e.cells)
-form_parts e h = ((grind (arith, nat_tests, h)), (grind (arith, nat_tests, h)), (grind (arith, nat_tests, h)))
+kept_form e seen len form below small = grind (arith, nat_tests, form, below, small)

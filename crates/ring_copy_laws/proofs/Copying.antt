@@ -1,20 +1,20 @@
 -- What each call adds to the packets that an end got, and where an end stops.
-use Rattle.std.proofs.Common.{◌≡◌, ◌≢◌, ◌⊎◌, ℕ, ◌+◌, ◌*◌, ◌%◌, ◌==◌, Bool, true, false, leb, ltb, List, [], ◌∷◌, ◌++◌, refl, sym, ap, ◌∙◌, subst, inl, inr, append_assoc, append-nil}
+use Rattle.std.proofs.Common.{◌≡◌, ◌≢◌, ◌⊎◌, ℕ, ◌==◌, Bool, true, false, List, [], ◌∷◌, ◌++◌, refl, sym, ap, ◌∙◌, subst, arith, inl, inr, append_assoc, append-nil}
+use Rattle.std.proofs.lemmas.Bool.Decides.{nat_tests}
 use Rattle.page_kept.specs.declared.page_call.PageCall.TheVariants.{LoadWords}
 use Rattle.ring_machine.specs.declared.machine.EndMachine.{EndMachine}
 use Rattle.ring_machine.specs.declared.machine.Stage.{Stage}
-use Rattle.ring_machine.specs.declared.machine.Stage.TheVariants.{Idle, Stopped, SendRead, SendCell, SendWrite, SendMask, SendLook, SendRaise, CommitRead, CommitFeature, CommitPending, CommitWrite, CommitRaise, ArmPending, ArmMask, ArmWrite, ArmRead, ArmMark, ArmUndoMask, ArmUndoPending, PollSignal, PollMask, PollPending, MarkStore, MarkRaise, PeerMark, TakeWrite, TakeFirst, TakeCell}
+use Rattle.ring_machine.specs.declared.machine.Stage.TheVariants.{Idle, Stopped, TakeWrite, TakeFirst, TakeCell}
 use Rattle.ring_machine.specs.declared.state.EndState.{EndState}
 use Rattle.ring_machine.specs.Endings.{why_of}
-use Rattle.ring_machine.specs.Places.{cell_of, free, is_index, low}
 use Rattle.ring_machine.specs.States.{afters, entered, got_after}
-use Rattle.ring_machine.specs.Steps.{fed_at, finds_room, is_busy_at, makes_room}
+use Rattle.ring_machine.specs.Steps.{fed_at, is_busy_at}
 use Rattle.ring_machine.proofs.Sound.{at_cond}
 use Rattle.ring_core.specs.Refused.{BreaksIn}
 use Rattle.ring_core.specs.Told.{AreSteps}
 use Rattle.ring_core.proofs.Loading.{only_pages}
 use Rattle.ring_core.proofs.Refused.{caused_in}
-use Rattle.ring_end_history.specs.Calls.{ArmCall, CallsLead, CommitCall, Leads, MarkCall, PageLoads, PageStores, PeerMarkCall, PollCall, RingCall, RingSteps, SendCall, TakeCall, WholeCall, begun, packet_in}
+use Rattle.ring_end_history.specs.Calls.{ArmCall, CallsLead, Leads, PageLoads, PageStores, RingCall, RingSteps, TakeCall, WholeCall, begun, packet_in}
 use Rattle.ring_copy_laws.specs.Copies.{AreLoaded, BrokeLast, Copied, IsCopy}
 use Rattle.ring_copy_laws.proofs.Taking.{Took, first_state, spot_of, taken}
 
@@ -30,31 +30,10 @@ Away m = is_taking m.stage ≡ false
 
 -- no other call comes to one
 stays_away : (m : EndMachine) (v : ℕ) (st : Stage) → m.stage ≡ st → is_busy_at st ≡ true → is_taking st ≡ false → Away (fed_at st m v)
-stays_away m v SendRead e b h = at_cond Away (is_index m.cells v) _ _ (λ _. at_cond Away (leb (free m.cells (cell_of v) m.write) (m.len + 1)) _ _ (λ _. refl) (λ _. refl)) (λ _. refl)
-stays_away m v SendCell e b h = at_cond Away (ltb m.done m.len) _ _ (λ _. ap is_taking e) (λ _. refl)
-stays_away m v SendWrite e b h = refl
-stays_away m v SendMask e b h = at_cond Away (low v == 0) _ _ (λ _. refl) (λ _. refl)
-stays_away m v SendLook e b h = at_cond Away (low v == 8 * m.old) _ _ (λ _. refl) (λ _. refl)
-stays_away m v SendRaise e b h = refl
-stays_away m v CommitRead e b h = refl
-stays_away m v CommitFeature e b h = at_cond Away (low v % 2 == 1) _ _ (λ _. refl) (λ _. refl)
-stays_away m v CommitPending e b h = at_cond Away (low v == 0) _ _ (λ _. refl) (λ _. refl)
-stays_away m v CommitWrite e b h = at_cond Away (makes_room m v) _ _ (λ _. refl) (λ _. refl)
-stays_away m v CommitRaise e b h = refl
-stays_away m v ArmPending e b h = refl
-stays_away m v ArmMask e b h = refl
-stays_away m v ArmWrite e b h = at_cond Away (low v == 8 * m.read) _ _ (λ _. at_cond Away (m.want == 0) _ _ (λ _. refl) (λ _. refl)) (λ _. refl)
-stays_away m v ArmRead e b h = at_cond Away (finds_room m v) _ _ (λ _. refl) (λ _. refl)
-stays_away m v ArmMark e b h = at_cond Away (v == 0) _ _ (λ _. refl) (λ _. refl)
-stays_away m v ArmUndoMask e b h = at_cond Away (m.want == 0) _ _ (λ _. refl) (λ _. refl)
-stays_away m v ArmUndoPending e b h = refl
-stays_away m v PollSignal e b h = at_cond Away (v == 0) _ _ (λ _. refl) (λ _. refl)
-stays_away m v PollMask e b h = at_cond Away (m.want == 0) _ _ (λ _. refl) (λ _. refl)
-stays_away m v PollPending e b h = refl
-stays_away m v MarkStore e b h = refl
-stays_away m v MarkRaise e b h = refl
-stays_away m v PeerMark e b h = at_cond Away (v == 0) _ _ (λ _. refl) (λ _. refl)
-stays_away m v _ e b h = absurd (cc)
+stays_away m v TakeWrite e b h = absurd (cc)
+stays_away m v TakeFirst e b h = absurd (cc)
+stays_away m v TakeCell e b h = absurd (cc)
+stays_away m v _ e b h = grind (arith, nat_tests)
 
 -- and no other step gets a packet
 got_stays : (st : Stage) (m : EndMachine) (g : List (List ℕ)) (xs : List ℕ) (v : ℕ) → is_taking st ≡ false → got_after st m g xs v ≡ g
@@ -69,22 +48,13 @@ gets_none s (v ∷ vs) h away =
     (stays_away x.machine v x.machine.stage refl h.0 it.0, got_stays x.machine.stage x.machine x.got x.copied v it.0 ∙ it.1)
 
 away_call : (c : RingCall) (m : EndMachine) → c ≢ TakeCall → Away (begun c m)
-away_call (SendCall p) m n = refl
 away_call TakeCall m n = absurd (n refl)
-away_call CommitCall m n = refl
 away_call (ArmCall want) m n = at_cond (λ (st : Stage). is_taking st ≡ false) (want == 0) _ _ (λ _. refl) (λ _. refl)
-away_call PollCall m n = refl
-away_call MarkCall m n = refl
-away_call PeerMarkCall m n = refl
+away_call _ m n = refl
 
 busy_call : (c : RingCall) (m : EndMachine) → is_busy_at (begun c m).stage ≡ true
 busy_call (ArmCall want) m = at_cond (λ (st : Stage). is_busy_at st ≡ true) (want == 0) _ _ (λ _. refl) (λ _. refl)
-busy_call (SendCall p) m = refl
-busy_call TakeCall m = refl
-busy_call CommitCall m = refl
-busy_call PollCall m = refl
-busy_call MarkCall m = refl
-busy_call PeerMarkCall m = refl
+busy_call _ m = refl
 
 abbrev Gets : EndState → WholeCall → EndState → Type 0
 Gets u c t = (t.got ≡ u.got) ⊎ ((p : List ℕ) × (t.got ≡ u.got ++ p ∷ []) × IsCopy u c p)
@@ -105,12 +75,7 @@ other_gets c u vs t n l = inl (ap (λ (x : EndState). x.got) l.2 ∙ (gets_none 
 
 gets : (c : WholeCall) (u t : EndState) → Leads c u t → Gets u c t
 gets (RingSteps TakeCall vs) u t l = take_gets u vs t l
-gets (RingSteps (SendCall p) vs) u t l = other_gets (SendCall p) u vs t (λ e. cc) l
-gets (RingSteps CommitCall vs) u t l = other_gets CommitCall u vs t (λ e. cc) l
-gets (RingSteps (ArmCall want) vs) u t l = other_gets (ArmCall want) u vs t (λ e. cc) l
-gets (RingSteps PollCall vs) u t l = other_gets PollCall u vs t (λ e. cc) l
-gets (RingSteps MarkCall vs) u t l = other_gets MarkCall u vs t (λ e. cc) l
-gets (RingSteps PeerMarkCall vs) u t l = other_gets PeerMarkCall u vs t (λ e. cc) l
+gets (RingSteps c vs) u t l = other_gets c u vs t (λ e. cc) l
 gets (PageLoads q n vs) u t l = inl (ap (λ (x : EndState). x.got) l.3 ∙ ap (λ (x : EndState). x.got) (only_pages u (LoadWords q n 0) vs))
 gets (PageStores q words vs) u t l = inl (ap (λ (x : EndState). x.got) l.2)
 

@@ -9,7 +9,7 @@ use Rattle.ring_machine.specs.declared.state.EndState.{EndState}
 use Rattle.ring_machine.specs.Places.{cell_of, is_index, len8_of, offset8_of, used}
 use Rattle.ring_machine.specs.States.{IsPacket, afters, copied_after, copied_at, entered, got_after}
 use Rattle.ring_machine.specs.Steps.{fed, is_busy_at, next_of, take_begun}
-use Rattle.ring_machine.proofs.Sound.{and_left, and_right, at_both, at_cond}
+use Rattle.ring_machine.proofs.Sound.{at_both, at_cond}
 use Rattle.ring_core.specs.Told.{AreSteps}
 use Rattle.ring_copy_laws.specs.Copies.{AreLoaded, place_at}
 
@@ -43,9 +43,9 @@ module _ (u : EndState) where
 
   -- no step was made
   record Fresh (x : Spot) (vs : List ℕ) : Type 0 where
-    machine : x.machine ≡ take_begun u.machine
-    got : x.got ≡ u.got
-    none : vs ≡ []
+    copied : List ℕ
+    is : x ≡ spot (take_begun u.machine) copied u.got
+    all : vs ≡ []
 
   -- the write index was loaded
   record First (x : Spot) (vs : List ℕ) : Type 0 where
@@ -98,12 +98,7 @@ module _ (u : EndState) where
       let n : ℕ = used u.machine.cells u.machine.read (cell_of i) in
       at_cond P (leb 2 (len8_of v) && ltb (len8_of v) n) _ _
       (λ a. at_cond P (leb 2 (offset8_of v) && leb (offset8_of v) (len8_of v)) _ _
-      (λ b.
-      let two : 2 ≤ len8_of v = let e = and_left (leb 2 (len8_of v)) (ltb (len8_of v) n) a in grind (arith, nat_tests, e) in
-      let fits : len8_of v < n = let e = and_right (leb 2 (len8_of v)) (ltb (len8_of v) n) a in grind (arith, nat_tests, e) in
-      let low : 2 ≤ offset8_of v = let e = and_left (leb 2 (offset8_of v)) (leb (offset8_of v) (len8_of v)) b in grind (arith, nat_tests, e) in
-      let high : offset8_of v ≤ len8_of v = let e = and_right (leb 2 (offset8_of v)) (leb (offset8_of v) (len8_of v)) b in grind (arith, nat_tests, e) in
-      inr (inr (inl (record { index = i; word = v; words = []; is = refl; all = refl; head = record { two = omega (arith, two); fits = omega (arith, fits); offset = (low, high) }; more = omega (arith, two) }))))
+      (λ b. inr (inr (inl (record { index = i; word = v; words = []; is = refl; all = refl; head = record { two = grind (arith, nat_tests, a); fits = grind (arith, nat_tests, a); offset = (grind (arith, nat_tests, b), grind (arith, nat_tests, b)) }; more = grind (arith, nat_tests, a) }))))
       (λ _. over _ _ refl refl))
       (λ _. over _ _ refl refl)
 
@@ -140,17 +135,14 @@ module _ (u : EndState) where
 
   -- a step of a take
   goes : (x : Spot) (vs : List ℕ) (v : ℕ) → Taking x vs → is_busy_at x.machine.stage ≡ true → Taking (next x v) (v ∷ vs)
-  goes x vs v (inl f) busy =
-      let is : x ≡ spot (take_begun u.machine) x.copied u.got = λ i. spot (f.machine i) x.copied (f.got i) in
-      subst (λ (y : Spot). Taking (next y v) (v ∷ vs)) (sym is) (subst (λ (l : List ℕ). Taking (next (spot (take_begun u.machine) x.copied u.got) v) (v ∷ l)) (sym f.none) (fresh_step x.copied v))
-  goes x vs v (inr (inl f)) busy =
-      subst (λ (y : Spot). Taking (next y v) (v ∷ vs)) (sym f.is) (subst (λ (l : List ℕ). Taking (next (spot (at_first f.index) [] u.got) v) (v ∷ l)) (sym f.all) (first_step f.index v))
+  goes x vs v (inl f) busy = subst (λ (y : Spot × List ℕ). Taking (next y.0 v) (v ∷ y.1)) (λ i. (sym f.is i, sym f.all i)) (fresh_step f.copied v)
+  goes x vs v (inr (inl f)) busy = subst (λ (y : Spot × List ℕ). Taking (next y.0 v) (v ∷ y.1)) (λ i. (sym f.is i, sym f.all i)) (first_step f.index v)
   goes x vs v (inr (inr (inl f))) busy = subst (λ (y : Spot). Taking (next y v) (v ∷ vs)) (sym f.is) (cells_step f.index f.word f.words v vs f.head f.more f.all)
   goes x vs v (inr (inr (inr f))) busy = absurd (let z : false ≡ true = sym f.rests ∙ busy in cc)
 
   -- and what it loads
   names : (x : Spot) (vs : List ℕ) → Taking x vs → is_busy_at x.machine.stage ≡ true → next_of x.machine [] ≡ Some (Load (place_at u.machine (length vs)))
-  names x vs (inl f) busy = ap (λ (m : EndMachine). next_of m []) f.machine ∙ ap (λ (l : List ℕ). Some (Load (place_at u.machine (length l)))) (sym f.none)
+  names x vs (inl f) busy = ap (λ (y : Spot). next_of y.machine []) f.is ∙ ap (λ (l : List ℕ). Some (Load (place_at u.machine (length l)))) (sym f.all)
   names x vs (inr (inl f)) busy = ap (λ (y : Spot). next_of y.machine []) f.is ∙ ap (λ (l : List ℕ). Some (Load (place_at u.machine (length l)))) (sym f.all)
   names x vs (inr (inr (inl f))) busy =
       let long : suc (suc (length f.words)) ≡ length vs = omega (arith, ap length f.all, length-append (reverse (f.word ∷ f.words)) (f.index ∷ []), length-reverse (f.word ∷ f.words)) in
@@ -161,7 +153,7 @@ module _ (u : EndState) where
   first_state = entered u (take_begun u.machine) []
 
   steps : (vs : List ℕ) → AreSteps first_state vs → Taking (spot_of (afters first_state vs)) vs × AreLoaded u.machine first_state vs
-  steps [] h = (inl (record { machine = refl; got = refl; none = refl }), tt)
+  steps [] h = (inl (record { copied = u.copied; is = refl; all = refl }), tt)
   steps (v ∷ vs) h =
       let it = steps vs h.1 in
       (goes (spot_of (afters first_state vs)) vs v it.0 h.0, (names (spot_of (afters first_state vs)) vs it.0 h.0, it.1))
@@ -171,8 +163,11 @@ module _ (u : EndState) where
       → (((afters first_state vs).got ≡ u.got) ⊎ Took (spot_of (afters first_state vs)) vs) × AreLoaded u.machine first_state vs
   taken vs h rests = let it = steps vs h in (by it.0, it.1)
     where
+      ends : (y : Spot) → spot_of (afters first_state vs) ≡ y → is_busy_at y.machine.stage ≡ true → ⊥
+      ends y is busy = let z : is_busy_at y.machine.stage ≡ false = ap (λ (k : Spot). is_busy_at k.machine.stage) (sym is) ∙ rests in cc
+
       by : Taking (spot_of (afters first_state vs)) vs → ((afters first_state vs).got ≡ u.got) ⊎ Took (spot_of (afters first_state vs)) vs
-      by (inl f) = absurd (let z : is_busy_at (afters first_state vs).machine.stage ≡ true = ap (λ (m : EndMachine). is_busy_at m.stage) f.machine in let y : true ≡ false = sym z ∙ rests in cc)
-      by (inr (inl f)) = absurd (let z : is_busy_at (afters first_state vs).machine.stage ≡ true = ap (λ (y : Spot). is_busy_at y.machine.stage) f.is in let y : true ≡ false = sym z ∙ rests in cc)
-      by (inr (inr (inl f))) = absurd (let z : is_busy_at (afters first_state vs).machine.stage ≡ true = ap (λ (y : Spot). is_busy_at y.machine.stage) f.is in let y : true ≡ false = sym z ∙ rests in cc)
+      by (inl f) = absurd (ends _ f.is refl)
+      by (inr (inl f)) = absurd (ends _ f.is refl)
+      by (inr (inr (inl f))) = absurd (ends _ f.is refl)
       by (inr (inr (inr f))) = f.took

@@ -1,33 +1,41 @@
 -- Page words that an end stores one after another.
-use Rattle.std.proofs.Common.{◌≡◌, ◌≢◌, ℕ, zero, suc, ◌+◌, ◌*◌, ◌<◌, ◌≤◌, ◌==◌, Bool, true, false, cond, leb, ltb, take, List, [], ◌∷◌, ◌++◌, length, get_or, set, Option, Some, None, refl, sym, ap, ◌∙◌, subst, arith, length-append, length-set, append_assoc}
-use Rattle.std.specs.Prelude.{IfSome}
+use Rattle.std.proofs.Common.{◌≡◌, ◌≢◌, ℕ, zero, suc, ◌+◌, ◌*◌, ◌<◌, ◌≤◌, ◌==◌, true, false, cond, leb, ltb, take, List, [], ◌∷◌, ◌++◌, length, get_or, set, Option, Some, None, refl, sym, ap, ◌∙◌, subst, arith, length-append, length-set, append_assoc, drop}
+use Rattle.std.specs.Prelude.{IfSome, slice_set}
 use Rattle.std.proofs.lemmas.Bool.Decides.{nat_tests}
 use Rattle.std.proofs.lemmas.List.{get_or-set_same, get_or-set_other, length-take-le, take-append-le}
 use Rattle.std.proofs.Math.Seq.{take-length, take-suc}
 use Rattle.page_kept.specs.declared.kept.Kept.{Kept}
 use Rattle.page_kept.specs.declared.owner.Owner.{Owner}
 use Rattle.page_kept.specs.declared.owner.Owner.TheVariants.{Lent, Held, Away}
-use Rattle.page_kept.specs.declared.page_call.PageCall.TheVariants.{StoreWord}
+use Rattle.page_kept.specs.declared.page_call.PageCall.TheVariants.{StoreWord, Off}
 use Rattle.page_kept.specs.Items.{item_of, values}
 use Rattle.page_kept.specs.Keepers.{CanStore, MayStore}
 use Rattle.page_kept.specs.Kept.{copy_in, first_page, gives_back, is_held, lends_out, lent_words, pages_sent, with_sent}
 use Rattle.page_kept.specs.Layouts.{Loan, layout}
 use Rattle.page_kept.specs.Stepped.{page_stored}
 use Rattle.page_table.specs.declared.loan.Loan.{Loan as Part}
-use Rattle.page_table.specs.Table.{IsPart, loan_of, loans, held_part, part_in}
+use Rattle.page_table.specs.Table.{IsPart, loan_of, loans, held_part, part_in, Table}
 use Rattle.pkt_desc.specs.Packets.{kind_of, id_of}
 use Rattle.ring_machine.specs.declared.place.Op.TheVariants.{Store}
 use Rattle.ring_machine.specs.declared.place.Place.TheVariants.{Page}
 use Rattle.ring_machine.specs.declared.state.EndState.{EndState}
-use Rattle.ring_machine.specs.PageCalls.{paged, with_pages}
-use Rattle.ring_machine.specs.States.{MayLend}
+use Rattle.ring_machine.specs.PageCalls.{paged, with_pages, page_op, pages_fed, page_store_begun}
+use Rattle.ring_machine.specs.States.{MayLend, resting_with}
 use Rattle.ring_core.specs.declared.told.Told.{Told}
 use Rattle.ring_core.specs.Laying.{laid_at, stored_all, memory_stored, RanStores}
 use Rattle.ring_core.specs.PageRuns.{RanPages, page_run, told_paged}
-use Rattle.ring_core.specs.Pages.{along, last_words, part_len, part_words}
-use Rattle.ring_core.specs.Told.{Memory, Pair, memory_after, pair, Tale}
+use Rattle.ring_core.specs.Pages.{along, last_words, part_len, part_words, Paged, items_of, kept_of, resting_in}
+use Rattle.ring_core.specs.Told.{Memory, Pair, memory_after, pair, Tale, HeardJust, answer_of, told_page}
 use Rattle.ring_core.proofs.Lendable.{store_may}
-use Rattle.ring_core.proofs.Paging.{first_of, last_more, none_along, other_of, part_long, values_long}
+use Rattle.ring_core.proofs.Paging.{by_test, first_of, last_more, none_along, other_of, part_long, values_long}
+use Rattle.std.proofs.lemmas.List.Edits.{sets, sets-eq}
+use Rattle.std.specs.List.{splice}
+use Rattle.channel_trace.specs.declared.event.Event.{Event}
+use Rattle.page_kept.specs.declared.page_call.PageCall.{PageCall}
+use Rattle.ring_machine.specs.declared.machine.EndMachine.{EndMachine}
+use Rattle.ring_machine.specs.declared.page_core.PageCore.{PageCore}
+use Rattle.ring_machine.specs.declared.place.Op.{Op}
+use Rattle.ring_core.proofs.Loading.{stored_one}
 
 -- one word more
 pub stored_more : (k : Kept) (q w n : ℕ) (xs : List ℕ) (v : ℕ) → n ≡ w + length xs → stored_all k q w (xs ++ v ∷ []) ≡ page_stored (stored_all k q w xs) q n v
@@ -44,17 +52,6 @@ stored_is k q w [] = refl
 stored_is k q w (x ∷ xs) = stored_is (page_stored k q w x) q (w + 1) xs
 
 -- the stores, one by one
-pub stores_first : (s : EndState) (q : ℕ) (told : Option Told) (tale : Tale) → ((u : Told) → told ≡ Some u → u.state ≡ s) → RanStores s s q [] told told tale tale
-stores_first s q told tale at = record {
-  values = [];
-  state = refl;
-  each = refl;
-  silent = λ e. e;
-  tells = λ u e. (let steps : u.steps ≡ u.steps + 0 = omega arith in e ∙ (λ i. Some (record { state = at u e i; steps = steps i; raised = u.raised; woke = u.woke })));
-  runs = λ m e. e;
-  hears = λ vs e. e;
-}
-
 module _ (s t t' : EndState) (q n v : ℕ) (xs : List ℕ) (told told' told'' : Option Told) (tale tale' tale'' : Tale) where
   pub stores_more : n ≡ length xs → RanStores s t q xs told told' tale tale' → RanPages t t' (StoreWord q n v) told' told'' tale' tale'' → t' ≡ with_pages t (page_stored t.pages q n v)
       → RanStores s t' q (xs ++ v ∷ []) told told'' tale tale''
@@ -82,10 +79,6 @@ stores_told s t q xs None told' tale tale' it u e = absurd (let z : None ≡ Som
 stores_told s t q xs (Some a) told' tale tale' it u e =
     let same : told_paged (length xs) t a ≡ u = (let z : Some (told_paged (length xs) t a) ≡ Some u = sym (it.tells a refl) ∙ e in cc) in
     ap (λ (x : Told). x.state) (sym same)
-
-by_test : {P : Type 0} (b : Bool) → (b ≡ true → P) → (b ≡ false → P) → P
-by_test true t f = t refl
-by_test false t f = f refl
 
 same_loan : (a b : Loan) → Some a ≡ Some b → a ≡ b
 same_loan a b e = cc
@@ -127,10 +120,6 @@ sent_words k p o long some e = ap (λ (j : Kept). last_words j.sent) (sent_into 
 
 pub along_part : (k : Kept) (p : List ℕ) (o : Option Part) → length k.owners ≡ k.count → k.count ≢ 0 → loans o ≡ part_in k.owners p → along k p ≡ part_len o
 along_part k p o long some e = other_of (k.count == 0) 0 _ (no_test k.count some) ∙ (ap length (sent_words k p o long some e) ∙ part_long k.copy o)
-
--- the part of a page of the channel is inside
-pub part_inside : (o : Option Part) (os : List Owner) (c : ℕ) → length os ≡ c → IfSome o (λ a. IsPart os a) → (a : Part) → o ≡ Some a → (a.page < c) × (a.words ≤ 512)
-part_inside o os c long is a e = (let z : IsPart os a = subst (λ (x : Option Part). IfSome x (λ b. IsPart os b)) e is in (omega (arith, z.0, long), z.2))
 
 pub along_any : (k : Kept) (p : List ℕ) (o : Option Part) → length k.owners ≡ k.count → loans o ≡ part_in k.owners p → IfSome o (λ a. IsPart k.owners a) → along k p ≡ part_len o
 along_any k p o long e is =
@@ -205,7 +194,7 @@ pub laid_is : (k : Kept) (at : Option Loan) (words : List ℕ) → laid_at k at 
 laid_is k None words = refl
 laid_is k (Some a) words = stored_is k a.page 0 words
 
-no_words : (xs : List ℕ) → length xs ≤ 0 → xs ≡ []
+pub no_words : (xs : List ℕ) → length xs ≤ 0 → xs ≡ []
 no_words [] h = refl
 no_words (x ∷ xs) h = absurd (omega (arith, h))
 
@@ -232,3 +221,38 @@ module _ (s : EndState) (p words : List ℕ) (o : Option Part) (long : length s.
       ap (λ (j : Kept). take (length words) (last_words (pages_sent (layout j.count) j p).sent)) (laid_is s.pages (loans o) words)
       ∙ (ap (take (length words)) (sent_words k p o long (λ e. some (ap (λ (j : Kept). j.count) (laid_is s.pages (loans o) words) ∙ e)) part)
       ∙ words_at o is (let e = along_any s.pages p o long part is in omega (arith, e, fits)))
+
+-- the copy after these stores: one part of it is other words
+sets_copy : (k : Kept) (q w i : ℕ) (xs : List ℕ) → i ≡ 512 * q + w → (stored_all k q w xs).copy ≡ sets k.copy i xs
+sets_copy k q w i [] e = refl
+sets_copy k q w i (x ∷ xs) e = sets_copy (page_stored k q w x) q (w + 1) (suc i) xs (omega (arith, e)) ∙ ap (λ (j : ℕ). sets (set k.copy j x) (suc i) xs) (sym e)
+
+pub stored_copy : (k : Kept) (q : ℕ) (xs : List ℕ) → 512 * q + length xs ≤ length k.copy → (stored_all k q 0 xs).copy ≡ splice k.copy (512 * q) (512 * q + length xs) xs
+stored_copy k q xs h = sets_copy k q 0 (512 * q) xs (omega arith) ∙ (sets-eq xs k.copy (512 * q) h ∙ append_assoc (take (512 * q) k.copy) xs (drop (512 * q + length xs) k.copy))
+
+pub fed_same : (k : PageCore) (q w v : ℕ) → k.call ≡ Off → pages_fed (page_store_begun k q w v) ≡ k
+fed_same k q w v off = ap (λ (c : PageCall). record { count = k.count; call = c; due = k.due }) (sym off)
+
+module _ (m : EndMachine) (k : PageCore) (sent got : Paged) (past : List (Event (List ℕ))) (t : Table) (q : ℕ) where
+  -- the pages of the end, once these words are stored
+  abbrev pub stored_in : List ℕ → Table
+  stored_in ws = record t { copy = (stored_all (kept_of k sent got t) q 0 ws).copy }
+
+  pub kept_stored : (ws : List ℕ) → kept_of k sent got (stored_in ws) ≡ stored_all (kept_of k sent got t) q 0 ws
+  kept_stored ws = sym (stored_is (kept_of k sent got t) q 0 ws)
+
+  -- one word more is stored
+  pub some_more : (ws : List ℕ) (n x v : ℕ) (told told' told'' : Option Told) (tale tale' tale'' : Tale) → n ≡ length ws → k.call ≡ Off
+      → RanStores (resting_in m k sent got past t) (resting_in m k sent got past (stored_in ws)) q ws told told' tale tale'
+      → (told' ≡ None → told'' ≡ None)
+      → ((u : Told) → told' ≡ Some u → told'' ≡ Some (told_page u (StoreWord q n x) v))
+      → ((y : Memory) (op : Op) → tale'.memory ≡ Some y → page_op (StoreWord q n x) ≡ Some op → (tale''.memory ≡ Some (memory_after m.cells op y)) × (v ≡ answer_of m.cells op y))
+      → HeardJust tale' tale'' (v ∷ []) → RanStores (resting_in m k sent got past t) (resting_in m k sent got past (stored_in (ws ++ x ∷ []))) q (ws ++ x ∷ []) told told'' tale tale''
+  some_more ws n x v told told' told'' tale tale' tale'' long off it quiet tells runs hears =
+      let now = resting_in m k sent got past (stored_in ws) in
+      let new = resting_in m k sent got past (stored_in (ws ++ x ∷ [])) in
+      let copy : (stored_in (ws ++ x ∷ [])).copy ≡ slice_set (stored_in ws).copy (512 * q + n) x = ap (λ (j : Kept). j.copy) (stored_more (kept_of k sent got t) q 0 n ws x (omega (arith, long))) in
+      let one = stored_one m k sent got past (stored_in ws) q 0 n x v told' told'' tale' tale'' (stored_in (ws ++ x ∷ [])) m k sent got past (stores_told _ _ _ _ _ _ _ _ it) quiet tells runs hears refl refl refl refl (sym (fed_same k q n x off)) refl copy in
+      let state : new ≡ with_pages now (page_stored now.pages q n x) =
+      (λ i. resting_with m sent.list got.list past (record { count = k.count; sent = items_of sent.list sent.lent; got = items_of got.list got.lent; owners = t.owners; copy = copy i; due = k.due; call = k.call })) in
+      stores_more _ now new q n x ws _ _ _ _ _ _ long it one state

@@ -2,7 +2,7 @@
 use Rattle.std.proofs.Common.{◌≡◌, ◌≢◌, ℕ, ◌<◌, ◌≤◌, ◌==◌, Bool, true, false, cond, List, [], ◌∷◌, length, get_or, set, Option, Some, None, refl, sym, ap, ◌∙◌, subst, arith}
 use Rattle.std.proofs.lemmas.Bool.Decides.{nat_tests}
 use Rattle.std.proofs.lemmas.List.{get_or_default}
-use Rattle.std.specs.Prelude.{IsTrue, ◌↔◌}
+use Rattle.std.specs.Prelude.{IsTrue, ◌↔◌, slice_index_or}
 use Rattle.io_edge.specs.declared.side.Side.{Side}
 use Rattle.page_kept.proofs.Loans.{fits}
 use Rattle.page_kept.specs.Counts.{count, is_done, is_ask}
@@ -21,7 +21,8 @@ use Rattle.ring_machine.specs.declared.state.EndState.{EndState}
 use Rattle.ring_machine.proofs.Sound.{at_cond}
 use Rattle.ring_core.specs.Lending.{Answers, Asks}
 use Rattle.ring_core.specs.Pages.{items_of, along, last_words}
-use Rattle.ring_core.proofs.Paging.{first_of, other_of, last_more, values_long}
+use Rattle.ring_core.proofs.Paging.{by_test, first_of, other_of, last_more, values_long}
+use Rattle.page_table.specs.Ids.{AreCounted, Counts, balance_of}
 
 owner_is : (x : Side) (k : Kept) (q : ℕ) → q < length k.owners → owner_in (layout k.count) x k q ≡ get_or k.owners q Away
 owner_is x k q h = get_or_default k.owners q _ Away h
@@ -29,15 +30,13 @@ owner_is x k q h = get_or_default k.owners q _ Away h
 pub store_may : (x : Side) (k : Kept) (q w : ℕ) → length k.owners ≡ k.count → k.due ≡ Clear → q < length k.owners → w < 512 → CanStore (get_or k.owners q Away) w → MayStore (layout k.count) x k q w
 store_may x k q w long clear a b can = record { clear = clear; page = omega (arith, a, long); word = b; owns = subst (λ (o : Owner). CanStore o w) (sym (owner_is x k q a)) can }
 
-pub may_store : (x : Side) (k : Kept) (q w : ℕ) → length k.owners ≡ k.count → MayStore (layout k.count) x k q w → (q < length k.owners) × (w < 512) × CanStore (get_or k.owners q Away) w
-may_store x k q w long m =
-    let a : q < length k.owners = omega (arith, m.page, long) in
-    (a, m.word, subst (λ (o : Owner). CanStore o w) (owner_is x k q a) m.owns)
-
 pub packets_of : (ps ws : List (List ℕ)) → length ps ≡ length ws → packets (items_of ps ws) ≡ ps
 packets_of [] ws e = refl
 packets_of (p ∷ ps) [] e = absurd (omega (arith, e))
 packets_of (p ∷ ps) (w ∷ ws) e = ap (λ (qs : List (List ℕ)). p ∷ qs) (packets_of ps ws (omega (arith, e)))
+
+apart : (b : Bool) → b ≡ true → b ≡ false → ⊥
+apart b t f = cc
 
 -- an end of a channel with pages whose lists are these
 module _ (s : EndState) (p : List ℕ) (long : length s.pages.owners ≡ s.pages.count) (sent : packets s.pages.sent ≡ s.sent) where
@@ -54,9 +53,6 @@ module _ (s : EndState) (p : List ℕ) (long : length s.pages.owners ≡ s.pages
     settled = λ a k. absurd (apart (kind_of p == 11) kind k);
     answers = λ k. subst (λ (ps : List (List ℕ)). count (is_done (id_of p)) ps < count (is_ask (id_of p)) s.got) (sym sent) h;
   }
-    where
-      apart : (b : Bool) → b ≡ true → b ≡ false → ⊥
-      apart b t f = cc
 
   pub lend_ask : s.pages.due ≡ Clear → (kind_of p == 11) ≡ false → Asks s.pages.owners s.sent s.got p → MayLend s p
   lend_ask clear kind asks = λ some. record {
@@ -65,9 +61,6 @@ module _ (s : EndState) (p : List ℕ) (long : length s.pages.owners ≡ s.pages
     settled = λ a k e. subst (λ (ps : List (List ℕ)). count (is_ask (id_of p)) ps ≤ count (is_done (id_of p)) s.got) (sym sent) (asks a (sym named ∙ e)).1;
     answers = λ k. absurd (apart (kind_of p == 11) k kind);
   }
-    where
-      apart : (b : Bool) → b ≡ true → b ≡ false → ⊥
-      apart b t f = cc
 
   pub answer_lend : s.pages.count ≢ 0 → (kind_of p == 11) ≡ true → MayLend s p → Answers s.sent s.got p
   answer_lend some kind m = subst (λ (ps : List (List ℕ)). count (is_done (id_of p)) ps < count (is_ask (id_of p)) s.got) sent ((m some).answers kind)
@@ -78,10 +71,6 @@ module _ (s : EndState) (p : List ℕ) (long : length s.pages.owners ≡ s.pages
     subst (λ (ps : List (List ℕ)). count (is_ask (id_of p)) ps ≤ count (is_done (id_of p)) s.got) sent ((m some).settled a kind (named ∙ e)),
   )
 
-  lends_by : {P : Type 0} (b : Bool) → (b ≡ true → P) → (b ≡ false → P) → P
-  lends_by true t f = t refl
-  lends_by false t f = f refl
-
   same : (kind_of p == 11) ≡ true → kind_of p ≡ 11
   same e = grind (arith, nat_tests, e)
 
@@ -91,17 +80,16 @@ module _ (s : EndState) (p : List ℕ) (long : length s.pages.owners ≡ s.pages
   -- the guard's answer is whether the packet may be sent
   module _ (r : Bool) (answers : kind_of p ≡ 11 → (IsTrue r ↔ Answers s.sent s.got p)) (asks : kind_of p ≢ 11 → (IsTrue r ↔ Asks s.pages.owners s.sent s.got p)) where
     pub guard_may : s.pages.due ≡ Clear → IsTrue r → MayLend s p
-    guard_may clear t = lends_by (kind_of p == 11) (λ e. lend_answer clear e ((answers (same e)).0 t)) (λ e. lend_ask clear e ((asks (differ e)).0 t))
+    guard_may clear t = by_test (kind_of p == 11) (λ e. lend_answer clear e ((answers (same e)).0 t)) (λ e. lend_ask clear e ((asks (differ e)).0 t))
 
     pub guard_whole : s.pages.count ≢ 0 → MayLend s p → IsTrue r
-    guard_whole some m = lends_by (kind_of p == 11) (λ e. (answers (same e)).1 (answer_lend some e m)) (λ e. (asks (differ e)).1 (ask_lend some e m))
+    guard_whole some m = by_test (kind_of p == 11) (λ e. (answers (same e)).1 (answer_lend some e m)) (λ e. (asks (differ e)).1 (ask_lend some e m))
 
 -- at most 512 page words go along with a packet
 lent_few : (o : Owner) → Fits o → lent_words o ≤ 512
-lent_few Has f = omega arith
 lent_few (Lent t n) f = omega (arith, f.1)
 lent_few (Held t n) f = omega (arith, f.1)
-lent_few Away f = omega arith
+lent_few _ f = omega arith
 
 few_by : (k : Kept) (p ws : List ℕ) (os : List Owner) → length ws ≤ 512 → length (last_words (with_sent k p ws os).sent) ≤ 512
 few_by k p ws os h = let e = ap length (last_more k.sent (item_of p ws)) in omega (arith, e, h)
@@ -132,7 +120,15 @@ along_few k p fit =
     at_cond (λ (j : Kept). length (last_words j.sent) ≤ 512) (kind_of p == 11) (gives_back k p (first_page (is_held (id_of p)) 0 k.owners)) (lends_out k p ((layout k.count).lends p))
     (λ _. few_given k p (first_page (is_held (id_of p)) 0 k.owners) fit) (λ _. few_lent k p ((layout k.count).lends p) (λ a h. (fits k.count p a h).2)) in
     subst (λ (n : ℕ). n ≤ 512) (sym z) (subst (λ (j : Kept). length (last_words j.sent) ≤ 512) (sym y) x))
-  where
-    by_test : {P : Type 0} (b : Bool) → (b ≡ true → P) → (b ≡ false → P) → P
-    by_test true t f = t refl
-    by_test false t f = f refl
+
+-- a packet that is to be sent
+module _ (c : Counts) (xs ys : List (List ℕ)) (counted : AreCounted c xs ys) (p : List ℕ) (r : Bool) where
+  pub answers_is : (IsTrue r ↔ (0 < (balance_of c.took (id_of p)).unanswered)) → (IsTrue r ↔ Answers xs ys p)
+  answers_is e =
+      let n = (counted.1 (id_of p)).0 in
+      (λ h. (let z = e.0 h in omega (arith, z, n)), λ h. e.1 (omega (arith, h, n)))
+
+  pub asks_is : (os : List Owner) → (IsTrue r ↔ ((a : Loan) → named_in os p ≡ Some a → (slice_index_or os a.page Away ≡ Has) × ((balance_of c.sent (id_of p)).unanswered ≡ 0))) → (IsTrue r ↔ Asks os xs ys p)
+  asks_is os e =
+      let n = (counted.0 (id_of p)).0 in
+      (λ h. λ a is. (let z = e.0 h a is in (z.0, omega (arith, z.1, n))), λ h. e.1 (λ a is. (let z = h a is in (z.0, omega (arith, z.1, n)))))

@@ -1,15 +1,11 @@
 pub mod CutLaws
 pub mod Driving
 pub mod Refused
-pub mod Openings
 pub mod Paging
 pub mod Performed
 pub mod Loading
-pub mod Counts
 pub mod Lendable
 pub mod Laying
-pub mod Goings
-pub mod Stores
 pub mod Calls
 pub mod Listing
 pub mod ListLaws

@@ -26,7 +26,7 @@ use Rattle.ring_machine.specs.States.{resting_with}
 use Rattle.io_edge.specs.declared.side.Side.{Side}
 use Rattle.ring_machine.specs.declared.machine.Ending.TheVariants.{Fresh}
 use Rattle.ring_machine.proofs.Sound.{at_cond}
-use Rattle.ring_core.specs.Driven.{Driven, Lean, got_by_answer, pages_by_send, pages_by_take, sent_by_answer}
+use Rattle.ring_core.specs.Driven.{Lean, got_by_answer, pages_by_send, pages_by_take, sent_by_answer}
 use Rattle.ring_core.specs.Keeping.{IsList, Keeps}
 use Rattle.ring_core.specs.Pages.{first_kept, items_of, owed, part_words}
 use Rattle.ring_core.specs.Seen.{Listed}
@@ -139,16 +139,6 @@ module _ {c : ℕ} {ps : List (List ℕ)} {is : List Item} {l l' : Listed} (p : 
     place = λ _ h. absurd (omega (arith, h));
   }
 
-pub list_room : {c : ℕ} {ps : List (List ℕ)} {is : List Item} {n : ℕ} {l l' : Listed} → IsList c ps is n l → (l'.list ≡ l.list) × (l'.lent ≡ l.lent) × (l'.paged ≡ l.paged) → (c ≢ 0 → 0 < n → l.lent_room.packets ≤ l'.lent_room.packets) → IsList c ps is n l'
-list_room it same more = record {
-  list = same.0 ∙ it.list;
-  items = (λ i. items_of (same.0 i) (same.1 i)) ∙ it.items;
-  paged = same.2 ∙ it.paged;
-  bare = λ z. same.1 ∙ it.bare z;
-  all = λ some. omega (arith, ap length same.0, ap length same.1, it.all some);
-  place = λ some h. (let z = it.place some h in let y = more some h in omega (arith, z, y));
-}
-
 -- in a channel with pages the items of a list that owes nothing are those of its packets
 pub list_items : {c : ℕ} {ps : List (List ℕ)} {is : List Item} {l : Listed} → IsList c ps is 0 l → c ≢ 0 → packets is ≡ ps
 list_items {c} {ps} {is} {l} it some = ap packets (sym it.items) ∙ (packets_of l.list l.lent (omega (arith, it.all some)) ∙ it.list)
@@ -160,14 +150,6 @@ list_none {c} {ps} {is} {n} {l} it none = sym it.items ∙ (ap (items_of l.list)
 pub list_lent : {c : ℕ} {ps : List (List ℕ)} {is : List Item} {n : ℕ} {l : Listed} → IsList c ps is n l → length l.lent ≤ length l.list
 list_lent {c} {ps} {is} {n} {l} it = by_count c (λ z. omega (arith, ap length (it.bare z))) (λ some. omega (arith, it.all some))
 
-pub list_paged : {c : ℕ} {ps : List (List ℕ)} {is : List Item} {n : ℕ} {l : Listed} → IsList c ps is n l → c ≢ 0 → l.paged ≡ true
-list_paged {c} {ps} {is} {n} {l} it some = it.paged ∙ ap not (let z : (c == 0) ≡ false = grind (arith, nat_tests, some) in z)
-
--- a channel without pages has no part of one
-pub no_part : (o : Option Part) (c : ℕ) → ((a : Part) → o ≡ Some a → (a.page < c) × (a.words ≤ 512)) → c ≡ 0 → o ≡ None
-no_part None c is z = refl
-no_part (Some a) c is z = absurd (let y = (is a refl).0 in omega (arith, y, z))
-
 -- what an answer tells of how its call ended
 pub ok_sent : (how : Ending) (m : EndMachine) → is_ok (send_answer how m) ≡ is_sent how
 ok_sent Fresh m = refl
@@ -178,10 +160,6 @@ ok_is (Ok y) true x e = refl
 ok_is (Ok y) false x e = absurd (cc)
 ok_is (Err y) true x e = absurd (cc)
 ok_is (Err y) false x e = refl
-
-pub pages_answered : (how : Ending) (m : EndMachine) (k : Kept) (p : List ℕ) → pages_by_send (send_answer how m) p k ≡ cond (is_sent how) (pages_sent (layout k.count) k p) k
-pages_answered Fresh m k p = refl
-pages_answered _ m k p = refl
 
 pub pages_taken : (b : Bool) (r : Option TakeRefusal) (x : TakeRefusal) (w : List ℕ) (k : Kept) (got got' : List (List ℕ)) → r ≡ cond b None (Some x) → got' ≡ got_by_answer r w got
     → pages_by_take r w k ≡ cond b (pages_took (layout k.count) k (newest got')) k
@@ -274,18 +252,6 @@ module _ {S : Type 0} {pages_of : S → ℕ} where
     places = λ n. (let z = it.places some in omega (arith, z, same.2, room));
     pages = seat ∙ (it.pages ∙ sym count);
   }
-
-  -- there is room for more
-  pub keeps_room : {e e' : Lean S} {s s' g g' : Listed} → Keeps pages_of e s g → e'.driven ≡ e.driven → (s'.list ≡ s.list) × (s'.lent ≡ s.lent) × (s'.paged ≡ s.paged) → (g'.list ≡ g.list) × (g'.lent ≡ g.lent) × (g'.paged ≡ g.paged)
-      → g.lent_room.packets ≤ g'.lent_room.packets → (e.driven.state.pages.count ≢ 0 → s'.places + g'.places ≤ e'.room) → Keeps pages_of e' s' g'
-  keeps_room it same a b more places =
-      let count = ap (λ (d : Driven S). d.state.pages.count) same in
-      record {
-        sent = list_as (list_room it.sent a (λ _ h. absurd (omega (arith, h)))) count (ap (λ (d : Driven S). d.state.sent) same) (ap (λ (d : Driven S). d.state.pages.sent) same) refl;
-        got = list_as (list_room it.got b (λ _ _. more)) count (ap (λ (d : Driven S). d.state.got) same) (ap (λ (d : Driven S). d.state.pages.got) same) (ap (λ (d : Driven S). owed d.state.pages.due) same);
-        places = λ some. places (λ z. some (count ∙ z));
-        pages = ap (λ (d : Driven S). pages_of d.seat) same ∙ (it.pages ∙ sym count);
-      }
 
   -- a new end
   pub keeps_new : {e : Lean S} {s g : Listed} (x : Side) (m : EndMachine) (c : ℕ) → e.driven.state ≡ resting_with m [] [] [] (first_kept x c) → (s.list ≡ []) × (s.lent ≡ []) → (g.list ≡ []) × (g.lent ≡ [])

@@ -8,29 +8,14 @@ use Rattle.page_kept.specs.Items.{item_of}
 use Rattle.page_kept.specs.Layouts.{layout}
 use Rattle.page_kept.specs.declared.due.Due.TheVariants.{Clear, Loads}
 use Rattle.page_kept.specs.declared.kept.Kept.{Kept}
-use Rattle.page_kept.specs.declared.page_call.PageCall.TheVariants.{Off}
-use Rattle.page_table.specs.Ids.{AreCounted, Counts}
+use Rattle.page_table.specs.Ids.{AreCounted}
 use Rattle.page_table.specs.Table.{KeepsPages, Table, sent_by, took_by}
 use Rattle.page_table.specs.declared.loan.Loan.{Loan as Part}
-use Rattle.ring_machine.specs.PageCalls.{core_pages, owes}
+use Rattle.ring_machine.specs.PageCalls.{owes}
 use Rattle.ring_machine.specs.declared.page_core.PageCore.{PageCore}
 use Rattle.ring_core.specs.Listing.{AreListed, kept_in}
-use Rattle.ring_core.specs.Pages.{is_whole, items_of, kept_of, owed, part_words}
-use Rattle.ring_core.proofs.Counts.{new_counted}
+use Rattle.ring_core.specs.Pages.{items_of, owed, part_words}
 use Rattle.ring_core.proofs.Paging.{items_more, items_none, items_wait, none_sent, none_took, sent_is}
-
--- an end that did nothing yet
-pub new_listed : (c : ℕ) (k : PageCore) (past lent : List (Event (List ℕ))) (t : Table) → k ≡ core_pages c → past ≡ [] → lent ≡ [] → length t.owners ≡ c → t.counts.sent ≡ [] → t.counts.took ≡ [] → AreListed k past lent t
-new_listed c k past lent t pages a b long sent took = subst (λ (x : PageCore × List (Event (List ℕ)) × List (Event (List ℕ))). AreListed x.0 x.1 x.2 t) (λ i. (sym pages i, sym a i, sym b i)) (record {
-  off = refl;
-  count = long;
-  sent_bare = λ _. refl;
-  got_bare = λ _. refl;
-  sent_all = λ _. refl;
-  got_all = λ _. refl;
-  whole = refl;
-  counted = λ _. new_counted t.counts sent took;
-})
 
 -- where no page words are kept, there are no items
 bare_items : (ps qs ws : List (List ℕ)) → ws ≡ [] → items_of ps ws ≡ items_of qs ws
@@ -41,36 +26,8 @@ module _ (k : PageCore) (past lent : List (Event (List ℕ))) (t : Table) (are :
   keeps : k.count ≢ 0 → KeepsPages (kept_in k past lent t) t
   keeps some = record { count = sym are.count; some = some; owners = refl; copy = refl }
 
-  -- what the end did sent and got nothing
-  pub kept_other : (past' : List (Event (List ℕ))) → sent_of past' ≡ sent_of past → got_of past' ≡ got_of past → kept_in k past' lent t ≡ kept_in k past lent t
-  kept_other past' s g = (λ i. kept_of k (record { list = s i; lent = sent_of lent }) (record { list = g i; lent = got_of lent }) t)
-
-  pub listed_other : (past' : List (Event (List ℕ))) → sent_of past' ≡ sent_of past → got_of past' ≡ got_of past → AreListed k past' lent t
-  listed_other past' s g = record {
-    off = are.off;
-    count = are.count;
-    sent_bare = are.sent_bare;
-    got_bare = are.got_bare;
-    sent_all = λ some. ap length s ∙ are.sent_all some;
-    got_all = λ some. ap length g ∙ are.got_all some;
-    whole = are.whole;
-    counted = λ some. subst (λ (x : List (List ℕ) × List (List ℕ)). AreCounted t.counts x.0 x.1) (λ i. (sym s i, sym g i)) (are.counted some);
-  }
-
   -- a packet was sent, or taken, in a channel without pages
   module _ (none : k.count ≡ 0) where
-    pub bare_listed : (past' : List (Event (List ℕ))) → AreListed k past' lent t
-    bare_listed past' = record {
-      off = are.off;
-      count = are.count;
-      sent_bare = are.sent_bare;
-      got_bare = are.got_bare;
-      sent_all = λ some. absurd (some none);
-      got_all = λ some. absurd (some none);
-      whole = are.whole;
-      counted = λ some. absurd (some none);
-    }
-
     pub bare_kept_sent : (p : List ℕ) (past' : List (Event (List ℕ))) → past' ≡ SentEvent p ∷ past → kept_in k past' lent t ≡ pages_sent (layout k.count) (kept_in k past lent t) p
     bare_kept_sent p past' e =
         let same : items_of (sent_of past ++ p ∷ []) (sent_of lent) ≡ items_of (sent_of past) (sent_of lent) = bare_items _ _ (sent_of lent) (are.sent_bare none) in
@@ -153,30 +110,3 @@ module _ (k : PageCore) (past lent : List (Event (List ℕ))) (t : Table) (are :
           whole = refl;
           counted = λ s. counts (sent_of past) (got_of past) (are.counted s);
         })
-
-  -- words were stored into the copy
-  pub listed_stored : (t' : Table) → t'.owners ≡ t.owners → t'.counts ≡ t.counts → AreListed k past lent t'
-  listed_stored t' owners counts = record {
-    off = are.off;
-    count = ap length owners ∙ are.count;
-    sent_bare = are.sent_bare;
-    got_bare = are.got_bare;
-    sent_all = are.sent_all;
-    got_all = are.got_all;
-    whole = are.whole;
-    counted = λ some. subst (λ (c : Counts). AreCounted c (sent_of past) (got_of past)) (sym counts) (are.counted some);
-  }
-
-  -- or all that were due are loaded, and went along with the packet that was taken last
-  pub listed_loaded : (k' : PageCore) (t' : Table) (lent' : List (Event (List ℕ))) (q n : ℕ) (w : List ℕ) → k.due ≡ Loads q n 0 → k.count ≢ 0 → (k'.due ≡ Clear) × (k'.call ≡ Off) × (k'.count ≡ k.count) → t'.owners ≡ t.owners → t'.counts ≡ t.counts
-      → lent' ≡ GotEvent w ∷ lent → AreListed k' past lent' t'
-  listed_loaded k' t' lent' q n w due some after owners counts went = subst (λ (es : List (Event (List ℕ))). AreListed k' past es t') (sym went) (record {
-    off = after.1;
-    count = ap length owners ∙ (are.count ∙ sym after.2);
-    sent_bare = λ z. absurd (some (sym after.2 ∙ z));
-    got_bare = λ z. absurd (some (sym after.2 ∙ z));
-    sent_all = λ _. are.sent_all some;
-    got_all = λ _. omega (arith, length-append (got_of lent) (w ∷ []), are.got_all some, ap owed due, ap owed after.0);
-    whole = ap is_whole after.0;
-    counted = λ s. subst (λ (c : Counts). AreCounted c (sent_of past) (got_of past)) (sym counts) (are.counted (λ z. s (after.2 ∙ z)));
-  })

@@ -17,11 +17,11 @@ use Rattle.ring_machine.specs.declared.place.Op.{Op}
 use Rattle.ring_machine.specs.declared.place.Op.TheVariants.{Load, Store}
 use Rattle.ring_machine.specs.declared.place.Place.TheVariants.{Page}
 use Rattle.ring_machine.specs.declared.state.EndState.{EndState}
-use Rattle.ring_machine.specs.PageCalls.{ContinuesPage, after_page, is_paging, lent_load_begun, newest, page_op, page_store_begun, paged, pages_fed, with_pages}
+use Rattle.ring_machine.specs.PageCalls.{ContinuesPage, after_page, lent_load_begun, newest, page_op, page_store_begun, paged, pages_fed, with_pages}
 use Rattle.ring_machine.specs.States.{resting_with}
 use Rattle.ring_core.specs.declared.told.Told.{Told}
 use Rattle.ring_core.specs.Pages.{Paged, items_of, kept_of, resting_in}
-use Rattle.ring_core.proofs.Paging.{newest_tail}
+use Rattle.ring_core.proofs.Paging.{first_of, newest_tail, other_of}
 use Rattle.ring_core.specs.Told.{HeardJust, Memory, pair, answer_of, memory_after, told_page, Tale}
 use Rattle.ring_core.specs.PageRuns.{page_afters, page_step, page_step_by, page_run, steps_in, told_paged, RanPages}
 
@@ -129,21 +129,6 @@ ran_pages s t c d told told' tale tale' j it some long e = record {
     ended [] h = absurd (omega (arith, h))
     ended (v ∷ vs) h = refl
 
--- what the seat tells is where the page call ended
-pub pages_told : (s t : EndState) (c : PageCall) (told told' : Option Told) (tale tale' : Tale) → RanPages s t c told told' tale tale' → (u : Told) → told' ≡ Some u → u.state ≡ t
-pages_told s t c None told' tale tale' it u e = absurd (let z : None ≡ Some u = sym (it.silent refl) ∙ e in cc)
-pages_told s t c (Some a) told' tale tale' it u e =
-    let same : told_paged (length it.values) t a ≡ u = (let z : Some (told_paged (length it.values) t a) ≡ Some u = sym (it.tells a refl) ∙ e in cc) in
-    ap (λ (x : Told). x.state) (sym same)
-
-pub first_of : {A : Type 0} (b : Bool) (x y : A) → b ≡ true → cond b x y ≡ x
-first_of true x y h = refl
-first_of false x y h = absurd (cc)
-
-pub other_of : {A : Type 0} (b : Bool) (x y : A) → b ≡ false → cond b x y ≡ y
-other_of true x y h = absurd (cc)
-other_of false x y h = refl
-
 less : (a b : ℕ) → a < b → ltb a b ≡ true
 less a b h = grind (arith, nat_tests, h)
 
@@ -220,9 +205,6 @@ module _ (k : PageCore) (sent got : Paged) (t : Table) (q n : ℕ) where
 
   pub load_named : (j : ℕ) → j < n → page_op (call_in j) ≡ Some (Load (Page q j))
   load_named j h = ap page_op (first_of (ltb j n) (LoadWords q n j) Off (less j n h))
-
-  pub load_pages : (j : ℕ) → j < n → is_paging (call_in j) ≡ true
-  load_pages j h = ap is_paging (first_of (ltb j n) (LoadWords q n j) Off (less j n h))
 
   pub kept_first : 0 < n → k.due ≡ Loads q n 0 → with_call (LoadWords q n 0) (kept_of k sent got t) ≡ kept_in 0 t.copy
   kept_first some due =

@@ -1,5 +1,5 @@
 -- Items, and what a send and a take make of the pages.
-use Rattle.std.proofs.Common.{◌≡◌, ◌≢◌, ℕ, zero, suc, ◌<◌, ◌==◌, Bool, true, false, cond, List, [], ◌∷◌, ◌++◌, length, Option, Some, None, refl, sym, ap, ◌∙◌, subst, arith, length-append, ◌-◌, ◌≤◌}
+use Rattle.std.proofs.Common.{◌≡◌, ℕ, zero, suc, ◌<◌, ◌==◌, Bool, true, false, cond, List, [], ◌∷◌, ◌++◌, length, Option, Some, None, refl, sym, ap, ◌∙◌, arith, length-append, ◌-◌, ◌≤◌}
 use Rattle.std.specs.Prelude.{slice_get, slice_index_or}
 use Rattle.std.proofs.lemmas.Bool.Decides.{nat_tests}
 use Rattle.page_kept.specs.declared.item.Item.{Item}
@@ -7,20 +7,14 @@ use Rattle.page_kept.specs.Items.{item_of, values}
 use Rattle.page_kept.specs.Kept.{pages_sent, pages_took, with_sent}
 use Rattle.page_kept.specs.Layouts.{layout}
 use Rattle.page_kept.specs.declared.due.Due.{Due}
-use Rattle.page_kept.specs.declared.due.Due.TheVariants.{Clear, Loads}
+use Rattle.page_kept.specs.declared.due.Due.TheVariants.{Loads}
 use Rattle.page_kept.specs.declared.kept.Kept.{Kept}
 use Rattle.page_kept.specs.declared.owner.Owner.{Owner}
 use Rattle.page_table.specs.declared.loan.Loan.{Loan as Part}
 use Rattle.page_table.specs.Table.{sent_by, word_of}
 use Rattle.ring_machine.specs.declared.page_core.PageCore.{PageCore}
-use Rattle.ring_machine.specs.declared.machine.Ending.{Ending}
-use Rattle.ring_machine.specs.declared.machine.Ending.TheVariants.{SentQuiet, SentRaised, Took}
-use Rattle.ring_machine.specs.declared.machine.EndMachine.{EndMachine}
 use Rattle.ring_machine.specs.declared.machine.Stage.{Stage}
 use Rattle.ring_machine.specs.PageCalls.{PagesFit, is_call_of, load_of, newest}
-use Rattle.ring_machine.specs.States.{pages_by_ending}
-use Rattle.ring_machine.specs.EndCalls.{Send, Take}
-use Rattle.ring_machine.specs.Steps.{call_by}
 use Rattle.ring_machine.proofs.Fitting.{inside_load}
 use Rattle.ring_core.specs.Pages.{items_of, last_words, along, part_words, part_len}
 
@@ -68,11 +62,12 @@ pub other_of : {A : Type 0} (b : Bool) (x y : A) → b ≡ false → cond b x y 
 other_of true x y h = absurd (cc)
 other_of false x y h = refl
 
+pub by_test : {P : Type 0} (b : Bool) → (b ≡ true → P) → (b ≡ false → P) → P
+by_test true t f = t refl
+by_test false t f = f refl
+
 is_none : (n : ℕ) → n ≡ 0 → (n == 0) ≡ true
 is_none n e = grind (arith, nat_tests, e)
-
-is_some : (n : ℕ) → n ≢ 0 → (n == 0) ≡ false
-is_some n e = grind (arith, nat_tests, e)
 
 -- a channel without pages keeps none, and nothing goes along
 pub none_sent : (j : Kept) (p : List ℕ) → j.count ≡ 0 → pages_sent (layout j.count) j p ≡ j
@@ -94,25 +89,6 @@ pub newest_more : (ps : List (List ℕ)) (p : List ℕ) → newest (ps ++ p ∷ 
 newest_more [] p = refl
 newest_more (q ∷ []) p = refl
 newest_more (q ∷ r ∷ ps) p = newest_tail q r (ps ++ p ∷ []) ∙ newest_more (r ∷ ps) p
-
--- a call that is no send and no take does nothing to the pages
-pub by_other : (how : Ending) (m : EndMachine) (k : Kept) (p buf : List ℕ) → (call_by how ≡ Send → ⊥) → (call_by how ≡ Take → ⊥) → pages_by_ending how m k p buf ≡ k
-by_other SentQuiet m k p buf x y = absurd (x refl)
-by_other SentRaised m k p buf x y = absurd (x refl)
-by_other Took m k p buf x y = absurd (y refl)
-by_other _ m k p buf x y = refl
-
--- nothing is due of a channel without pages
-pub none_due : (k : PageCore) (st : Stage) → PagesFit k st → (k.count ≢ 0 → k.due ≡ Clear) → k.due ≡ Clear
-none_due k st f clear = by_count k.count refl
-  where
-    no_due : (d : Due) → is_call_of 0 (load_of d) ≡ true → d ≡ Clear
-    no_due Clear h = refl
-    no_due (Loads q n j) h = absurd (let z = inside_load 0 q n j h in omega (arith, z.0))
-
-    by_count : (c : ℕ) → k.count ≡ c → k.due ≡ Clear
-    by_count zero e = no_due k.due (subst (λ (c : ℕ). is_call_of c (load_of k.due) ≡ true) e f.due)
-    by_count (suc c) e = clear (λ z. absurd (omega (arith, e, z)))
 
 -- what is due is in the channel
 pub due_inside : (k : PageCore) (st : Stage) (q n : ℕ) → PagesFit k st → k.due ≡ Loads q n 0 → (q < k.count) × (0 < n) × (n ≤ 512)

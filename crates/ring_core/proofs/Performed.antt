@@ -7,7 +7,7 @@ use Rattle.ring_machine.specs.declared.machine.EndMachine.{EndMachine}
 use Rattle.ring_machine.specs.declared.state.EndState.{EndState}
 use Rattle.ring_machine.specs.declared.place.Op.{Op}
 use Rattle.ring_machine.specs.declared.page_core.PageCore.{PageCore}
-use Rattle.ring_machine.specs.PageCalls.{ContinuesPage, PagesFit, is_paging, is_under_way, is_call_of, or_else, page_op, next_in}
+use Rattle.ring_machine.specs.PageCalls.{PagesFit, is_paging, is_under_way, is_call_of, or_else, page_op, next_in}
 use Rattle.ring_machine.specs.States.{Continues}
 use Rattle.ring_machine.specs.Steps.{is_busy_at, next_of}
 use Rattle.ring_machine.proofs.Bounds.{rests_none}
@@ -21,9 +21,6 @@ ring_goes b s m c p e h = subst (λ (x : Bool). GoesOn x s m c p) (sym e) h
 pub ring_went : (b : Bool) (s : EndState) (m : EndMachine) (c : PageCall) (p : List ℕ) → b ≡ true → GoesOn b s m c p → Continues s m p
 ring_went b s m c p e h = subst (λ (x : Bool). GoesOn x s m c p) e h
 
-pub page_goes : (b : Bool) (s : EndState) (m : EndMachine) (c : PageCall) (p : List ℕ) → b ≡ false → ContinuesPage s c → GoesOn b s m c p
-page_goes b s m c p e h = subst (λ (x : Bool). GoesOn x s m c p) (sym e) h
-
 pub ring_tells : (b : Bool) (u : Told) (m : EndMachine) (c : PageCall) (p : List ℕ) (v : ℕ) → b ≡ true → told_step b u m c p v ≡ told_next (told_at u m p) v
 ring_tells b u m c p v e = ap (λ (x : Bool). told_step x u m c p v) e
 
@@ -36,13 +33,6 @@ ring_next m c p op e = ap (λ (o : Option Op). or_else o (page_op c)) e
 
 pub page_next : (m : EndMachine) (c : PageCall) (p : List ℕ) → is_busy_at m.stage ≡ false → next_in m c p ≡ page_op c
 page_next m c p e = ap (λ (o : Option Op). or_else o (page_op c)) (rests_none m p m.stage e)
-
--- a call that is under way, of the rings or of pages
-pub ring_way : (st : Stage) (c : PageCall) → is_busy_at st ≡ true → is_under_way st c ≡ true
-ring_way st c b = ap (λ (t : Bool). t || is_paging c) b
-
-pub page_way : (st : Stage) (c : PageCall) → is_busy_at st ≡ false → is_paging c ≡ true → is_under_way st c ≡ true
-page_way st c b h = ap (λ (t : Bool). t || is_paging c) b ∙ h
 
 no_call : (c : PageCall) → is_call_of 0 c ≡ true → is_paging c ≡ true → ⊥
 no_call Off h p = absurd (cc)

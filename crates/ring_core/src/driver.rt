@@ -130,6 +130,7 @@ fn steps_at<S: Seatlike>(
     requires may { MayGo S.told S.tale seat.old core.old.machine packet.now buf.old.items }
     requires fits { S.cells seat.old ≡ core.old.machine.cells }
     ensures goes { Goes S.cells S.told S.tale S.same seat.old seat.new core.old.machine core.new.machine packet.now buf.old.items buf.new.items }
+    ensures may { MayGo S.told S.tale seat.new core.new.machine packet.now buf.new.items }
     ensures keeps { Keeps (call_at at) core.old.machine core.new.machine }
     ensures pages { core.new.pages ≡ core.old.pages }
 {

@@ -1,5 +1,5 @@
 -- A channel and its two ends belong together after each step of one of them, and after each call.
-use Rattle.std.proofs.Common.{◌≡◌, ◌≢◌, ℕ, zero, suc, Bool, true, false, ◌||◌, cond, eqb, List, [], ◌∷◌, ◌++◌, length, get_or, Option, Some, None, refl, sym, ap, ◌∙◌, subst, ⊎_elim, length-set}
+use Rattle.std.proofs.Common.{◌≡◌, ◌≢◌, ℕ, Bool, true, false, ◌||◌, cond, eqb, List, [], ◌∷◌, ◌++◌, length, get_or, Some, refl, sym, ap, ◌∙◌, subst, ⊎_elim, length-set}
 use Rattle.channel_trace.specs.declared.event.Event.{Event}
 use Rattle.channel_trace.specs.Runs.{Turn, Guest as GuestTurn, Host as HostTurn, IsRun, May, guest_of, host_of}
 use Rattle.io_edge.specs.declared.side.Side.{Side}
@@ -13,11 +13,10 @@ use Rattle.ring_machine.specs.declared.place.Op.{Op}
 use Rattle.ring_machine.specs.declared.place.Op.TheVariants.{Load, Store, Raise, TakeSignal, StoreMark}
 use Rattle.ring_machine.specs.Places.{out_of, in_of, peer_of, mark_of, words_of}
 use Rattle.ring_machine.specs.Steps.{IsSound, fed, is_copying_at, next_at, next_of, is_busy_at, send_begun, take_begun, commit_begun, arm_begun, poll_begun, mark_begun, peer_mark_begun}
-use Rattle.ring_machine.specs.States.{after, entered, kept_at, copied_at, copied_after, Begins, BeginsSend, BeginsTake, BeginsCommit, BeginsArm, BeginsPoll, BeginsMark, BeginsPeerMark}
-use Rattle.ring_core.specs.declared.told.Told.{Told}
-use Rattle.ring_core.specs.Told.{Memory, Pair, pair, step, step_by, run, written, answer_in, Ran, Tale, tells_memory}
-use Rattle.ring_pair_laws.specs.Ring.{size, RingOk, PastOk, Fits, ChannelOk, Sending_at, Taking_at, ring_in, is_marked, is_marking_at}
-use Rattle.ring_pair_laws.proofs.Frame.{Tells, Rests, producer_same, consumer_same, past_kept, no_rest, tells_at, calm_sending, calm_taking, is_calm_at}
+use Rattle.ring_machine.specs.States.{after, entered, kept_at, copied_at, copied_after, Begins}
+use Rattle.ring_core.specs.Told.{written, answer_in}
+use Rattle.ring_pair_laws.specs.Ring.{size, RingOk, PastOk, Fits, ChannelOk, Sending_at, Taking_at, ring_in, is_marking_at}
+use Rattle.ring_pair_laws.proofs.Frame.{Tells, Rests, producer_same, consumer_same, past_kept, no_rest, not_stopped, goes_on, indices_of, calm_sending, calm_taking, is_calm_at}
 use Rattle.ring_machine.proofs.Sound.{fed_sound}
 use Rattle.ring_machine.proofs.Tables.{fed_cells}
 use Rattle.ring_pair_laws.proofs.Sides.{fed_side}
@@ -135,42 +134,36 @@ step_both n x q ws e p b =
     subst (λ (k : ℕ × Side). Both k.0 k.1 ws e p → (is_busy_at e.machine.stage ≡ true → e.packet ≡ q) → (op : Op) → next_of e.machine e.packet ≡ Some op → Goes k.0 k.1 q (written k.0 op ws) (after e (answer_in k.0 op ws)) p)
     (λ j. (b.fits.cells j, b.fits.side j)) (step_own q ws e p) b
 
--- the memory is the channel's own, and nobody else changes it
-pub record Stands (n : ℕ) (x : Side) (q : List ℕ) (p : EndState) (y : Pair) : Type 0 where
-  pub alone : y.memory.due ≡ []
-  pub goes : Goes n x q y.memory.words y.state p
+-- what a step of an end leaves, goes on through its call
+pub goes_on_by : (n : ℕ) (x : Side) (q : List ℕ) (p e : EndState) (ws : List ℕ) (op : Op) → Goes n x q ws e p → next_of e.machine e.packet ≡ Some op → Goes n x q (written e.machine.cells op ws) (after e (answer_in e.machine.cells op ws)) p
+goes_on_by n x q p e ws op g h = subst (λ (k : ℕ). Goes n x q (written k op ws) (after e (answer_in k op ws)) p) (sym g.both.fits.cells) (step_both n x q ws e p g.both g.packet op h)
 
-stands_by : (n : ℕ) (x : Side) (q : List ℕ) (p e : EndState) (ws : List ℕ) (steps : ℕ) → Goes n x q ws e p → (o : Option Op) → next_of e.machine e.packet ≡ o → Stands n x q p (step_by o (pair e record { words = ws; steps = steps; due = [] }))
-stands_by n x q p e ws steps g None h = record { alone = refl; goes = g }
-stands_by n x q p e ws steps g (Some op) h = record { alone = refl; goes = subst (λ (k : ℕ). Goes n x q (written k op ws) (after e (answer_in k op ws)) p) (sym g.both.fits.cells) (step_both n x q ws e p g.both g.packet op h) }
+-- the side, the cells, the indices and the marks of a machine
+abbrev pub kept_in : EndMachine → Side × ℕ × (ℕ × ℕ × ℕ) × (Bool × Bool × Bool)
+kept_in m = (m.side, m.cells, indices_of m, (m.marked, m.peer_marked, m.drained))
 
-step_stands : (n : ℕ) (x : Side) (q : List ℕ) (p : EndState) (y : Pair) → Stands n x q p y → Stands n x q p (step y)
-step_stands n x q p y it =
-    let m : Memory = record { words = y.memory.words; steps = y.memory.steps; due = [] } in
-    let same : pair y.state m ≡ y = λ i. record { state = y.state; memory = record { words = y.memory.words; steps = y.memory.steps; due = sym it.alone i } } in
-    subst (λ (z : Pair). Stands n x q p (step z)) same (stands_by n x q p y.state y.memory.words y.memory.steps it.goes (next_of y.state.machine y.state.packet) refl)
+busy_goes : (st : Stage) (how : Ending) → is_busy_at st ≡ true → goes_on st how ≡ true
+busy_goes Idle how h = absurd (cc)
+busy_goes Stopped how h = absurd (cc)
+busy_goes _ how h = refl
 
--- any number of steps
-pub run_keeps : (n : ℕ) (x : Side) (q : List ℕ) (p : EndState) (k : ℕ) (y : Pair) → Stands n x q p y → Stands n x q p (run k y)
-run_keeps n x q p zero y it = it
-run_keeps n x q p (suc k) y it = step_stands n x q p (run k y) (run_keeps n x q p k y it)
+arm_stage : (t : Bool) → (is_marking_at (cond t ArmMask ArmPending) ≡ false) × (is_busy_at (cond t ArmMask ArmPending) ≡ true) × (is_calm_at (cond t ArmMask ArmPending) ≡ true)
+arm_stage true = (refl, refl, refl)
+arm_stage false = (refl, refl, refl)
 
 module _ (n : ℕ) (x : Side) (ws : List ℕ) (e p : EndState) (b : Both n x ws e p) where
-  -- a call that begins at this machine, which has the end's indices and marks
-  began : (m : EndMachine) (q : List ℕ) → e.machine.stage ≡ Idle → IsSound m → m.side ≡ e.machine.side → m.cells ≡ e.machine.cells → m.write ≡ e.machine.write → m.read ≡ e.machine.read → m.start ≡ e.machine.start
-      → m.marked ≡ e.machine.marked → m.peer_marked ≡ e.machine.peer_marked → m.drained ≡ e.machine.drained → is_marking_at m.stage ≡ false → is_busy_at m.stage ≡ true
-      → e.copied ≡ [] → Sending_at m.stage n (ring_in n ws (out_of x)) (size e.sent) (size b.out.given_back) (entered e m q) → Taking_at m.stage n (entered e m q) b.inn.waiting
-      → Goes n x q ws (entered e m q) p
-  began m q idle sound side cells write read start marked peer_marked drained unmarking busy clear sending taking =
-      let same : is_marked (entered e m q) ≡ is_marked e = (λ j. marked j || unmarking j) ∙ ap (λ (s : Stage). e.machine.marked || is_marking_at s) (sym idle) in
-      record {
+  -- a call that begins at the machine k, which has the end's indices and marks
+  began : (m k : EndMachine) (q : List ℕ) → m ≡ k → IsSound m → e.copied ≡ [] → e.machine.stage ≡ Idle → kept_in k ≡ kept_in e.machine → is_marking_at k.stage ≡ false → is_busy_at k.stage ≡ true
+      → Sending_at k.stage n (ring_in n ws (out_of x)) (size e.sent) (size b.out.given_back) (entered e k q) → Taking_at k.stage n (entered e k q) b.inn.waiting → Goes n x q ws (entered e m q) p
+  began m k q is sound clear idle same unmarking busy sending taking =
+      subst (λ (y : EndMachine). IsSound y → Goes n x q ws (entered e y q) p) (sym is) (λ s. record {
         both = record {
           words = b.words;
-          fits = record { side = side ∙ b.fits.side; cells = cells ∙ b.fits.cells; sound = sound };
+          fits = record { side = ap (λ (t : Side × ℕ × (ℕ × ℕ × ℕ) × (Bool × Bool × Bool)). t.0) same ∙ b.fits.side; cells = ap (λ (t : Side × ℕ × (ℕ × ℕ × ℕ) × (Bool × Bool × Bool)). t.1) same ∙ b.fits.cells; sound = s };
           peer_fits = b.peer_fits;
-          out = producer_same n _ e _ p b.out refl write sending;
-          inn = consumer_same n _ p e _ b.inn refl read start taking;
-          past = past_kept _ _ e _ b.past refl refl refl same peer_marked drained refl;
+          out = producer_same n _ e _ p b.out refl (ap (λ (t : Side × ℕ × (ℕ × ℕ × ℕ) × (Bool × Bool × Bool)). t.2.0) same) sending;
+          inn = consumer_same n _ p e _ b.inn refl (ap (λ (t : Side × ℕ × (ℕ × ℕ × ℕ) × (Bool × Bool × Bool)). t.2.1) same) (ap (λ (t : Side × ℕ × (ℕ × ℕ × ℕ) × (Bool × Bool × Bool)). t.2.2) same) taking;
+          past = past_kept _ e b.past k q e.copied e.pages ((λ j. ((same j).3.0 || unmarking j, (same j).3.1, (same j).3.2)) ∙ (λ j. (e.machine.marked || is_marking_at (sym idle j), e.machine.peer_marked, e.machine.drained)));
           peers = b.peers;
           turns = b.turns;
           run = b.run;
@@ -179,81 +172,17 @@ module _ (n : ℕ) (x : Side) (ws : List ℕ) (e p : EndState) (b : Both n x ws 
         };
         packet = λ h. refl;
         clear = λ h. clear;
-        rests = no_rest q (entered e m q) p (busy_tells m.stage m.ended busy);
-        goes = busy_goes m.stage busy;
-      }
-    where
-      busy_tells : (st : Stage) (how : Ending) → is_busy_at st ≡ true → tells_at st how ≡ false
-      busy_tells Idle how h = absurd (cc)
-      busy_tells _ how h = refl
-
-      busy_goes : (st : Stage) → is_busy_at st ≡ true → st ≢ Stopped
-      busy_goes st h i = let no_call : is_busy_at st ≡ false = ap is_busy_at i in cc
-
-  send_began : (m : EndMachine) (q : List ℕ) → e.copied ≡ [] → BeginsSend e m q → IsSound m → Goes n x q ws (entered e m q) p
-  send_began m q clear c sound =
-      subst (λ (k : EndMachine). IsSound k → Goes n x q ws (entered e k q) p) (sym c.0)
-      (λ s. began (send_begun e.machine (length q)) q c.3.idle s refl refl refl refl refl refl refl refl refl refl clear (c.1, refl) tt) sound
-
-  take_began : (m : EndMachine) (q : List ℕ) → e.copied ≡ [] → BeginsTake e m q → IsSound m → Goes n x q ws (entered e m q) p
-  take_began m q clear c sound =
-      subst (λ (k : EndMachine). IsSound k → Goes n x q ws (entered e k q) p) (sym c.0)
-      (λ s. began (take_begun e.machine) q c.2.idle s refl refl refl refl refl refl refl refl refl refl clear tt tt) sound
-
-  commit_began : (m : EndMachine) (q : List ℕ) → e.copied ≡ [] → BeginsCommit e m q → IsSound m → Goes n x q ws (entered e m q) p
-  commit_began m q clear c sound =
-      subst (λ (k : EndMachine). IsSound k → Goes n x q ws (entered e k q) p) (sym c.0)
-      (λ s. began (commit_begun e.machine) q c.2.idle s refl refl refl refl refl refl refl refl refl refl clear tt tt) sound
-
-  arm_began : (m : EndMachine) (q : List ℕ) → e.copied ≡ [] → BeginsArm e m q → IsSound m → Goes n x q ws (entered e m q) p
-  arm_began m q clear c sound =
-      subst (λ (k : EndMachine). IsSound k → Goes n x q ws (entered e k q) p) (sym c.1)
-      (λ s. began (arm_begun e.machine c.0) q c.4.idle s refl refl refl refl refl refl refl refl (unmarking (eqb c.0 0)) (busy (eqb c.0 0)) clear (calm_sending _ n _ _ _ _ (calm (eqb c.0 0))) (calm_taking _ n _ _ (calm (eqb c.0 0)))) sound
-    where
-      unmarking : (t : Bool) → is_marking_at (cond t ArmMask ArmPending) ≡ false
-      unmarking true = refl
-      unmarking false = refl
-
-      busy : (t : Bool) → is_busy_at (cond t ArmMask ArmPending) ≡ true
-      busy true = refl
-      busy false = refl
-
-      calm : (t : Bool) → is_calm_at (cond t ArmMask ArmPending) ≡ true
-      calm true = refl
-      calm false = refl
-
-  poll_began : (m : EndMachine) (q : List ℕ) → e.copied ≡ [] → BeginsPoll e m q → IsSound m → Goes n x q ws (entered e m q) p
-  poll_began m q clear c sound =
-      subst (λ (k : EndMachine). IsSound k → Goes n x q ws (entered e k q) p) (sym c.0)
-      (λ s. began (poll_begun e.machine) q c.2 s refl refl refl refl refl refl refl refl refl refl clear tt tt) sound
-
-  mark_began : (m : EndMachine) (q : List ℕ) → e.copied ≡ [] → BeginsMark e m q → IsSound m → Goes n x q ws (entered e m q) p
-  mark_began m q clear c sound =
-      subst (λ (k : EndMachine). IsSound k → Goes n x q ws (entered e k q) p) (sym c.0)
-      (λ s. began (mark_begun e.machine) q c.2.idle s refl refl refl refl refl refl refl refl refl refl clear tt tt) sound
-
-  peer_mark_began : (m : EndMachine) (q : List ℕ) → e.copied ≡ [] → BeginsPeerMark e m q → IsSound m → Goes n x q ws (entered e m q) p
-  peer_mark_began m q clear c sound =
-      subst (λ (k : EndMachine). IsSound k → Goes n x q ws (entered e k q) p) (sym c.0)
-      (λ s. began (peer_mark_begun e.machine) q c.2.idle s refl refl refl refl refl refl refl refl refl refl clear tt tt) sound
+        rests = no_rest q (entered e k q) p (busy_goes k.stage k.ended busy);
+        goes = not_stopped k (busy_goes k.stage k.ended busy);
+      }) sound
 
   -- any call
   pub call_began : (m : EndMachine) (q : List ℕ) → Begins e m q → IsSound m → Goes n x q ws (entered e m q) p
   call_began m q c sound =
-      ⊎_elim (λ a. send_began m q c.0.0 a sound)
-      (⊎_elim (λ a. take_began m q c.0.0 a sound)
-      (⊎_elim (λ a. commit_began m q c.0.0 a sound)
-      (⊎_elim (λ a. arm_began m q c.0.0 a sound)
-      (⊎_elim (λ a. poll_began m q c.0.0 a sound)
-      (⊎_elim (λ a. mark_began m q c.0.0 a sound) (λ a. peer_mark_began m q c.0.0 a sound)))))) c.1
-
--- a call of an end on the channel's words
-pub call_keeps : (n : ℕ) (x : Side) (ws : List ℕ) (steps : ℕ) (e p : EndState) → Both n x ws e p → (m : EndMachine) (q : List ℕ) → Begins e m q → IsSound m
-    → (t : EndState) (told told' : Option Told) (tale' : Tale) → Ran (entered e m q) t told told' (tells_memory record { words = ws; steps = steps; due = [] }) tale'
-    → (m' : Memory) × (tale'.memory ≡ Some m') × (m'.due ≡ []) × Goes n x q m'.words t p
-call_keeps n x ws steps e p b m q begins sound t told told' tale' ran =
-    let r = ran.runs record { words = ws; steps = steps; due = [] } refl in
-    let s : Stands n x q p (run (length ran.values) (pair (entered e m q) record { words = ws; steps = steps; due = [] })) =
-    run_keeps n x q p (length ran.values) (pair (entered e m q) record { words = ws; steps = steps; due = [] }) (record { alone = refl; goes = call_began n x ws e p b m q begins sound }) in
-    let z : Stands n x q p (pair t r.0) = subst (Stands n x q p) r.2 s in
-    (r.0, r.1, z.alone, z.goes)
+      ⊎_elim (λ a. began m (send_begun e.machine (length q)) q a.0 sound c.0.0 a.3.idle refl refl refl (a.1, refl) tt)
+      (⊎_elim (λ a. began m (take_begun e.machine) q a.0 sound c.0.0 a.2.idle refl refl refl tt tt)
+      (⊎_elim (λ a. began m (commit_begun e.machine) q a.0 sound c.0.0 a.2.idle refl refl refl tt tt)
+      (⊎_elim (λ a. let st = arm_stage (eqb a.0 0) in began m (arm_begun e.machine a.0) q a.1 sound c.0.0 a.4.idle refl st.0 st.1 (calm_sending _ n _ _ _ _ st.2) (calm_taking _ n _ _ st.2))
+      (⊎_elim (λ a. began m (poll_begun e.machine) q a.0 sound c.0.0 a.2 refl refl refl tt tt)
+      (⊎_elim (λ a. began m (mark_begun e.machine) q a.0 sound c.0.0 a.2.idle refl refl refl tt tt)
+      (λ a. began m (peer_mark_begun e.machine) q a.0 sound c.0.0 a.2.idle refl refl refl tt tt)))))) c.1

@@ -1,13 +1,14 @@
 -- A send of an honest end appends or finds no room, and a take gives the first waiting packet or finds none.
-use Rattle.std.proofs.Common.{◌≡◌, ℕ, ◌+◌, ◌-◌, ◌%◌, ◌<◌, ◌≤◌, List, [], ◌∷◌, ◌++◌, length, drop, refl, sym, ap, ◌∙◌, arith, append_assoc}
+use Rattle.std.proofs.Common.{◌≡◌, ℕ, ◌+◌, ◌%◌, ◌<◌, List, [], ◌∷◌, ◌++◌, length, drop, refl, sym, ap, ◌∙◌, arith, append_assoc}
 use native.Mathlib.Decide.{dec_lt}
 use mathlib.Core.Logic.{dite}
 use Rattle.ring_machine.specs.declared.state.EndState.{EndState}
 use Rattle.ring_machine.specs.Places.{free}
 use Rattle.ring_pair_laws.specs.Ring.{size, RingOk}
 use Rattle.ring_pair_laws.specs.Results.{waiting_for}
-use Rattle.ring_pair_laws.proofs.Turns.{apart, free_mod}
-use Rattle.ring_pair_laws.proofs.Streams.{size-append, size-one}
+use Rattle.ring_pair_laws.proofs.Turns.{apart}
+use Rattle.ring_pair_laws.proofs.Streams.{size-one}
+use Rattle.ring_pair_laws.proofs.Frame.{back_got, sent_in, free_is}
 
 drop_front : (xs ys : List (List ℕ)) → drop (length xs) (xs ++ ys) ≡ ys
 drop_front [] ys = refl
@@ -31,31 +32,17 @@ none_waiting e p all = ap (λ (l : List (List ℕ)). drop (length l) p.sent) all
 
 -- what a ring had given back before and after is as long, as its read word is the same
 module _ (n : ℕ) (f f' : ℕ → ℕ) (e t p : EndState) (r : RingOk n f e p) (r' : RingOk n f' t p) where
-  behind : (l : RingOk n f e p) → size l.given_back ≤ size p.got
-  behind l = omega (arith, ap size l.got_is, size-append l.given_back l.since)
-
-  behind' : size r'.given_back ≤ size p.got
-  behind' = omega (arith, ap size r'.got_is, size-append r'.given_back r'.since)
-
-  longer : size p.got ≤ size e.sent
-  longer = omega (arith, ap size r.sent_is, size-append p.got r.waiting)
-
-  longer' : size p.got ≤ size t.sent
-  longer' = omega (arith, ap size r'.sent_is, size-append p.got r'.waiting)
-
   same_begin : size r.given_back % n ≡ size r'.given_back % n
   same_begin = sym r.start ∙ r'.start
 
   same_back : size r.given_back ≡ size r'.given_back
   same_back =
-      dite (dec_lt (size r.given_back) (size r'.given_back)) (λ lt. absurd (apart n (size r.given_back) (size r'.given_back) lt (omega (arith, behind', longer, r.room)) same_begin))
-      (λ ge. dite (dec_lt (size r'.given_back) (size r.given_back)) (λ lt. absurd (apart n (size r'.given_back) (size r.given_back) lt (omega (arith, behind r, longer', r'.room)) (sym same_begin))) (λ le. omega arith))
+      dite (dec_lt (size r.given_back) (size r'.given_back)) (λ lt. absurd (apart n (size r.given_back) (size r'.given_back) lt (omega (arith, back_got _ _ _ _ r', sent_in _ _ _ _ r, r.room)) same_begin))
+      (λ ge. dite (dec_lt (size r'.given_back) (size r.given_back)) (λ lt. absurd (apart n (size r'.given_back) (size r.given_back) lt (omega (arith, back_got _ _ _ _ r, sent_in _ _ _ _ r', r'.room)) (sym same_begin))) (λ le. omega arith))
 
   -- a packet that was sent had room
   pub had_room : (q : List ℕ) → t.sent ≡ e.sent ++ q ∷ [] → length q + 1 < free n p.machine.start e.machine.write
-  had_room q is =
-      let free_is : free n p.machine.start e.machine.write ≡ n - (size e.sent - size r.given_back) = (λ j. free n (r.start j) (r.write j)) ∙ free_mod n (size r.given_back) (size e.sent) (omega (arith, behind r, longer)) r.room in
-      omega (arith, r'.room, same_back, free_is, ap size is, size-one e.sent q, behind r, longer)
+  had_room q is = omega (arith, r'.room, same_back, free_is _ _ _ _ r, ap size is, size-one e.sent q, back_got _ _ _ _ r, sent_in _ _ _ _ r)
 
   -- an end that sent nothing has its write index
   pub write_same : t.sent ≡ e.sent → t.machine.write ≡ e.machine.write

@@ -6,14 +6,14 @@ use Rattle.io_edge.specs.declared.side.Side.{Side}
 use Rattle.io_edge.specs.declared.side.Side.TheVariants.{Guest, Host}
 use Rattle.ring_machine.specs.declared.place.Ring.{Ring}
 use Rattle.ring_machine.specs.declared.place.Ring.TheVariants.{ToHost, ToGuest}
-use Rattle.ring_machine.specs.declared.state.EndState.{EndState}
 use Rattle.ring_machine.specs.Places.{mark_of, words_of}
 use Rattle.ring_machine.specs.Steps.{IsSound, machine_new}
 use Rattle.ring_machine.specs.States.{IsPacket, resting}
 use Rattle.ring_core.specs.Told.{opening, opening_with}
 use Rattle.ring_pair_laws.specs.Ring.{RingOk, AtRest, ring_in}
 use Rattle.ring_core.specs.Told.{Held}
-use Rattle.ring_pair_laws.specs.Pair.{TwoEnds, IsPair}
+use Rattle.ring_pair_laws.specs.Pair.{TwoEnds, IsPair, end_of}
+use Rattle.ring_pair_laws.proofs.Keeping.{Both, both_of}
 use Rattle.ring_pair_laws.proofs.Turns.{small_mod}
 use Rattle.ring_pair_laws.proofs.Pairing.{pair_by}
 
@@ -99,6 +99,6 @@ new_channel n a b = record {
 pub new_pair : (s : TwoEnds) (n : ℕ) → s.at ≡ Guest → s.guest.state ≡ resting (machine_new Guest n) [] [] [] → s.host.state ≡ resting (machine_new Host n) [] [] []
     → s.guest.seat ≡ record { cells = n; pages = 0; memory = record { words = opening_with n 0; steps = 0; due = [] } } → 512 ≤ n → n ≤ 16777216 → IsPair s
 new_pair s n at guest host seat a b =
-    let rest : AtRest n s.guest.seat.memory.words s.guest.state s.host.state =
-    subst (λ (k : List ℕ × EndState × EndState). AtRest n k.0 k.1 k.2) (λ j. ((sym (append-nil (opening n)) ∙ ap (λ (m : Held). m.memory.words) (sym seat)) j, sym guest j, sym host j)) (new_channel n a b) in
-    pair_by s Guest at (ap (λ (m : Held). m.memory.due) seat) (subst (λ (k : ℕ). AtRest k s.guest.seat.memory.words s.guest.state s.host.state) (ap (λ (y : EndState). y.machine.cells) (sym guest)) rest)
+    let c = new_channel n a b in
+    pair_by s Guest n _ _ _ ((λ j. (end_of s (at j)).seat.memory) ∙ ap (λ (k : Held). k.memory) seat) guest host refl
+    (subst (λ (l : List ℕ). Both n Guest l (resting (machine_new Guest n) [] [] []) (resting (machine_new Host n) [] [] [])) (sym (append-nil (opening n))) (both_of n Guest _ _ _ c.channel)) c.guest_rests c.host_rests

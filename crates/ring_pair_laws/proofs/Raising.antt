@@ -1,24 +1,20 @@
 -- Where the steps of a send and of a commit raise the peer's signal, by the words that the call found.
-use Rattle.std.proofs.Common.{◌≡◌, ◌≢◌, ℕ, ◌+◌, ◌*◌, ◌%◌, ◌≤◌, Bool, true, false, ◌&&◌, not, cond, eqb, leb, ltb, List, get_or, set, Some, IfOk, sym, ap, ◌∙◌, subst, arith}
+use Rattle.std.proofs.Common.{◌≡◌, ◌≢◌, ℕ, ◌+◌, ◌*◌, ◌/◌, ◌%◌, Bool, true, false, ◌&&◌, not, cond, eqb, leb, ltb, List, get_or, set, IfOk, refl, sym, ap, ◌∙◌, subst, arith}
 use Rattle.std.proofs.lemmas.List.{get_or-set_other}
 use Rattle.io_edge.specs.declared.side.Side.{Side}
-use Rattle.io_edge.specs.declared.side.Side.TheVariants.{Guest, Host}
 use Rattle.ring_machine.specs.declared.machine.Stage.{Stage}
 use Rattle.ring_machine.specs.declared.machine.Stage.TheVariants.{Idle, Stopped, SendRead, SendCell, SendWrite, SendMask, SendLook, SendRaise, CommitRead, CommitFeature, CommitPending, CommitWrite, CommitRaise}
 use Rattle.ring_machine.specs.declared.machine.Ending.{Ending}
 use Rattle.ring_machine.specs.declared.machine.Ending.TheVariants.{SentQuiet, SentRaised, Full, BadPeer, CommittedQuiet, CommittedRaised}
 use Rattle.ring_machine.specs.declared.machine.EndMachine.{EndMachine}
-use Rattle.ring_machine.specs.declared.place.Ring.{Ring}
-use Rattle.ring_machine.specs.declared.place.Ring.TheVariants.{ToHost, ToGuest}
-use Rattle.ring_machine.specs.declared.place.Place.TheVariants.{Write, Read, Mask, Pending, Feature, Cell}
-use Rattle.ring_machine.specs.declared.place.Op.{Op}
-use Rattle.ring_machine.specs.declared.place.Op.TheVariants.{Load, Store, Raise}
+use Rattle.ring_machine.specs.declared.place.Place.TheVariants.{Write, Read, Mask, Pending, Feature}
 use Rattle.ring_machine.specs.Places.{in_of, out_of, peer_of, base_of, signal_of, low, is_index, cell_of, free, ahead, trailer, raises_on_commit}
-use Rattle.ring_machine.specs.Steps.{fed, fed_at, next_at, next_of, makes_room}
+use Rattle.ring_machine.specs.Steps.{next_of, makes_room}
 use Rattle.ring_machine.specs.Endings.{commit_answer, send_answer}
-use Rattle.ring_core.specs.Told.{written, answer_in}
 use Rattle.ring_pair_laws.specs.Signals.{word_at, header, send_raises, commit_raises, words_given, words_committed, signalled}
-use Rattle.ring_pair_laws.proofs.Quiet.{at_cond}
+use Rattle.ring_machine.proofs.Sound.{at_cond}
+use Rattle.ring_pair_laws.proofs.Words.{base_most, behind}
+use Rattle.ring_pair_laws.proofs.Knowing.{Next}
 
 module _ (n : ℕ) (x : Side) (start read : ℕ) (found : List ℕ) where
   abbrev raises : Bool
@@ -44,65 +40,14 @@ module _ (n : ℕ) (x : Side) (start read : ℕ) (found : List ℕ) where
   abbrev Committing_at : Stage → EndMachine → List ℕ → Type 0
   Committing_at CommitRead m ws = (ws ≡ found) × (m.start ≡ start) × (m.read ≡ read)
   Committing_at CommitFeature m ws = (ws ≡ given) × (m.old ≡ start) × (m.read ≡ read)
-  Committing_at CommitPending m ws = (ws ≡ given) × (m.old ≡ start) × (m.read ≡ read) × (eqb (header n found (Feature (in_of x)) % 2) 1 ≡ true)
-  Committing_at CommitWrite m ws = (ws ≡ given) × (m.old ≡ start) × (m.read ≡ read) × (eqb (header n found (Feature (in_of x)) % 2) 1 ≡ true) × (eqb (header n found (Pending (in_of x))) 0 ≡ false) × (m.value ≡ header n found (Pending (in_of x)))
+  Committing_at CommitPending m ws = (ws ≡ given) × (m.old ≡ start) × (m.read ≡ read) × (raises ≡ (waits && makes))
+  Committing_at CommitWrite m ws = (ws ≡ given) × (m.old ≡ start) × (m.read ≡ read) × (m.value ≡ header n found (Pending (in_of x))) × (raises ≡ makes)
   Committing_at CommitRaise m ws = (ws ≡ given) × (raises ≡ true)
   Committing_at Idle m ws = Committed_by m.ended ws
   Committing_at _ m ws = ⊥
 
   abbrev pub Committing : EndMachine → List ℕ → Type 0
   Committing m ws = Committing_at m.stage m ws
-
-  -- a word that a commit loads is the one that the call found
-  loads : (at : ℕ) (ws : List ℕ) → ws ≡ given → at ≢ base_of n (in_of x) + 1 → get_or ws at 0 ≡ get_or found at 0
-  loads at ws is ne = ap (λ (l : List ℕ). get_or l at 0) is ∙ get_or-set_other found (base_of n (in_of x) + 1) at (8 * read) 0 ne
-
-  pub commit_keeps : (m : EndMachine) (q ws : List ℕ) (op : Op) → m.side ≡ x → m.cells ≡ n → Committing m ws → next_of m q ≡ Some op → Committing (fed m (answer_in n op ws)) (written n op ws)
-  commit_keeps m q ws op side cells k h = by_stage m.stage k h
-    where
-      op_is : (a b : Op) → Some a ≡ Some b → a ≡ b
-      op_is a b i = cc
-
-      put : Committing_at CommitRead m ws → Committing (fed_at CommitRead m 0) (set ws (base_of n (in_of x) + 1) (8 * m.read))
-      put k = ((λ j. set (k.0 j) (base_of n (in_of x) + 1) (8 * k.2 j)), k.1, k.2)
-
-      feature : Committing_at CommitFeature m ws → Committing (fed_at CommitFeature m (get_or ws (base_of n (in_of x) + 4) 0)) ws
-      feature k =
-          let v : ℕ = get_or ws (base_of n (in_of x) + 4) 0 in
-          let low_is : low v ≡ header n found (Feature (in_of x)) = ap low (loads (base_of n (in_of x) + 4) ws k.0 (λ i. omega arith)) in
-          let test_is : eqb (low v % 2) 1 ≡ eqb (header n found (Feature (in_of x)) % 2) 1 = ap (λ (z : ℕ). eqb (z % 2) 1) low_is in
-          at_cond (λ (m' : EndMachine). Committing m' ws) (eqb (low v % 2) 1) _ _ (λ t. (k.0, k.1, k.2, sym test_is ∙ t)) (λ f. (k.0, ap (λ (b : Bool). b && (waits && makes)) (sym test_is ∙ f)))
-
-      pending : Committing_at CommitPending m ws → Committing (fed_at CommitPending m (get_or ws (base_of n (in_of x) + 3) 0)) ws
-      pending k =
-          let v : ℕ = get_or ws (base_of n (in_of x) + 3) 0 in
-          let low_is : low v ≡ header n found (Pending (in_of x)) = ap low (loads (base_of n (in_of x) + 3) ws k.0 (λ i. omega arith)) in
-          let test_is : eqb (low v) 0 ≡ eqb (header n found (Pending (in_of x))) 0 = ap (λ (z : ℕ). eqb z 0) low_is in
-          at_cond (λ (m' : EndMachine). Committing m' ws) (eqb (low v) 0) _ _
-          (λ t. (k.0, (λ j. k.3 j && (not ((sym test_is ∙ t) j) && makes))))
-          (λ f. (k.0, k.1, k.2, k.3, sym test_is ∙ f, low_is))
-
-      room : Committing_at CommitWrite m ws → Committing (fed_at CommitWrite m (get_or ws (base_of n (in_of x)) 0)) ws
-      room k =
-          let v : ℕ = get_or ws (base_of n (in_of x)) 0 in
-          let v_is : v ≡ word_at n found (Write (in_of x)) = loads (base_of n (in_of x)) ws k.0 (λ i. omega arith) in
-          let test_is : makes_room m v ≡ makes =
-          λ j. is_index (cells j) (v_is j) && raises_on_commit (8 * cells j) (low (v_is j)) (8 * k.1 j) (8 * k.2 j) (k.5 j) in
-          at_cond (λ (m' : EndMachine). Committing m' ws) (makes_room m v) _ _
-          (λ t. (k.0, (λ j. k.3 j && (not (k.4 j) && (sym test_is ∙ t) j))))
-          (λ f. (k.0, (λ j. k.3 j && (not (k.4 j) && (sym test_is ∙ f) j))))
-
-      raised : Committing_at CommitRaise m ws → Committing (fed_at CommitRaise m 0) (set ws (signal_of n (peer_of x)) 1)
-      raised k = ((λ j. set (k.0 j) (signal_of n (peer_of x)) 1), k.1)
-
-      by_stage : (st : Stage) → Committing_at st m ws → next_at st m q ≡ Some op → Committing (fed_at st m (answer_in n op ws)) (written n op ws)
-      by_stage Idle k h = absurd (cc)
-      by_stage CommitRead k h = subst (λ (o : Op). Committing (fed_at CommitRead m (answer_in n o ws)) (written n o ws)) ((λ j. Store (Read (in_of (sym side j))) (8 * m.read)) ∙ op_is _ op h) (put k)
-      by_stage CommitFeature k h = subst (λ (o : Op). Committing (fed_at CommitFeature m (answer_in n o ws)) (written n o ws)) ((λ j. Load (Feature (in_of (sym side j)))) ∙ op_is _ op h) (feature k)
-      by_stage CommitPending k h = subst (λ (o : Op). Committing (fed_at CommitPending m (answer_in n o ws)) (written n o ws)) ((λ j. Load (Pending (in_of (sym side j)))) ∙ op_is _ op h) (pending k)
-      by_stage CommitWrite k h = subst (λ (o : Op). Committing (fed_at CommitWrite m (answer_in n o ws)) (written n o ws)) ((λ j. Load (Write (in_of (sym side j)))) ∙ op_is _ op h) (room k)
-      by_stage CommitRaise k h = subst (λ (o : Op). Committing (fed_at CommitRaise m (answer_in n o ws)) (written n o ws)) ((λ j. Raise (peer_of (sym side j))) ∙ op_is _ op h) (raised k)
-      by_stage _ k h = absurd k
 
   -- how a commit ends
   pub commit_ends : (m : EndMachine) (ws : List ℕ) → m.stage ≡ Idle → Committing m ws → (commit_answer m.ended ≡ signalled raises) × (ws ≡ words_committed n found x read raises)
@@ -113,13 +58,28 @@ module _ (n : ℕ) (x : Side) (start read : ℕ) (found : List ℕ) where
       by_ending CommittedRaised k = (ap signalled (sym k.1), k.0 ∙ ap (words_committed n found x read) (sym k.1))
       by_ending _ k = absurd k
 
-base_most : (n : ℕ) (y : Ring) → base_of n y ≤ n + 5
-base_most n ToHost = omega arith
-base_most n ToGuest = omega arith
+-- each step of a commit
+module _ (start read : ℕ) (found : List ℕ) (m : EndMachine) (q ws : List ℕ) where
+  -- a word that a commit loads is the one that the call found
+  loads : (at : ℕ) → ws ≡ words_given m.cells found m.side read → at ≢ base_of m.cells (in_of m.side) + 1 → get_or ws at 0 ≡ get_or found at 0
+  loads at is ne = ap (λ (l : List ℕ). get_or l at 0) is ∙ get_or-set_other found (base_of m.cells (in_of m.side) + 1) at (8 * read) 0 ne
 
-signal_least : (n : ℕ) (x : Side) → n + n + 10 ≤ signal_of n x
-signal_least n Guest = omega arith
-signal_least n Host = omega arith
+  pub commit_keeps : (st : Stage) → Committing m.cells m.side start read found (record m { stage = st }) ws → Next (Committing m.cells m.side start read found) (record m { stage = st }) ws (next_of (record m { stage = st }) q)
+  commit_keeps CommitRead k = ((λ j. set (k.0 j) (base_of m.cells (in_of m.side) + 1) (8 * k.2 j)), k.1, k.2)
+  commit_keeps CommitFeature k =
+      let low_is : low (get_or ws (base_of m.cells (in_of m.side) + 4) 0) ≡ header m.cells found (Feature (in_of m.side)) = ap low (loads (base_of m.cells (in_of m.side) + 4) k.0 (λ i. omega arith)) in
+      rw low_is (at_cond (λ (m' : EndMachine). Committing m.cells m.side start read found m' ws) (eqb (header m.cells found (Feature (in_of m.side)) % 2) 1) _ _ (λ t. (k.0, k.1, k.2, (rw t))) (λ t. (k.0, (rw t))))
+  commit_keeps CommitPending k =
+      let low_is : low (get_or ws (base_of m.cells (in_of m.side) + 3) 0) ≡ header m.cells found (Pending (in_of m.side)) = ap low (loads (base_of m.cells (in_of m.side) + 3) k.0 (λ i. omega arith)) in
+      rw low_is (at_cond (λ (m' : EndMachine). Committing m.cells m.side start read found m' ws) (eqb (header m.cells found (Pending (in_of m.side))) 0) _ _ (λ t. (k.0, k.3 ∙ (rw t))) (λ t. (k.0, k.1, k.2, refl, k.3 ∙ (rw t))))
+  commit_keeps CommitWrite k =
+      let v : ℕ = get_or ws (base_of m.cells (in_of m.side)) 0 in
+      let v_is : v ≡ word_at m.cells found (Write (in_of m.side)) = loads (base_of m.cells (in_of m.side)) k.0 (λ i. omega arith) in
+      let test_is : makes_room m v ≡ makes m.cells m.side start read found = λ j. is_index m.cells (v_is j) && raises_on_commit (8 * m.cells) (low (v_is j)) (8 * k.1 j) (8 * k.2 j) (k.3 j) in
+      at_cond (λ (m' : EndMachine). Committing m.cells m.side start read found m' ws) (makes_room m v) _ _ (λ t. (k.0, k.4 ∙ (sym test_is ∙ t))) (λ t. (k.0, k.4 ∙ (sym test_is ∙ t)))
+  commit_keeps CommitRaise k = ((λ j. set (k.0 j) (signal_of m.cells (peer_of m.side)) 1), k.1)
+  commit_keeps Idle k = tt
+  commit_keeps _ k = absurd k
 
 module _ (n : ℕ) (x : Side) (write : ℕ) (found : List ℕ) where
   abbrev sent_raises : Bool
@@ -151,60 +111,9 @@ module _ (n : ℕ) (x : Side) (write : ℕ) (found : List ℕ) where
     pub read : get_or ws (base_of n (out_of x) + 1) 0 ≡ get_or found (base_of n (out_of x) + 1) 0
     pub at : Sending_at m.stage m
 
-  pub send_keeps : (m : EndMachine) (q ws : List ℕ) (op : Op) → m.side ≡ x → m.cells ≡ n → Sending m ws → next_of m q ≡ Some op → Sending (fed m (answer_in n op ws)) (written n op ws)
-  send_keeps m q ws op side cells k h = by_stage m.stage (λ _. m.stage) k.at h
-    where
-      op_is : (a b : Op) → Some a ≡ Some b → a ≡ b
-      op_is a b i = cc
-
-      -- a store elsewhere
-      stored : (m' : EndMachine) (i v : ℕ) → base_of n (out_of x) + 2 ≢ i → base_of n (out_of x) + 1 ≢ i → Sending_at m'.stage m' → Sending m' (set ws i v)
-      stored m' i v a b at = record {
-        mask = get_or-set_other ws i (base_of n (out_of x) + 2) v 0 a ∙ k.mask;
-        read = get_or-set_other ws i (base_of n (out_of x) + 1) v 0 b ∙ k.read;
-        at = at;
-      }
-
-      asks : (v : ℕ) → Sending_at SendRead m → Sending (fed_at SendRead m v) ws
-      asks v at =
-          at_cond (λ (m' : EndMachine). Sending m' ws) (is_index m.cells v) _ _
-          (λ t. at_cond (λ (m' : EndMachine). Sending m' ws) (leb (free m.cells (cell_of v) m.write) (m.len + 1)) _ _ (λ u. record { mask = k.mask; read = k.read; at = tt }) (λ u. record { mask = k.mask; read = k.read; at = at }))
-          (λ f. record { mask = k.mask; read = k.read; at = tt })
-
-      cell : (c v : ℕ) → m.stage ≡ SendCell → Sending_at SendCell m → Sending (fed_at SendCell m 0) (set ws (base_of n (out_of x) + 5 + c) v)
-      cell c v i at =
-          at_cond (λ (m' : EndMachine). Sending m' (set ws (base_of n (out_of x) + 5 + c) v)) (ltb m.done m.len) _ _
-          (λ t. stored (record m { done = m.done + 1 }) _ v (λ h. omega arith) (λ h. omega arith) (subst (λ (st : Stage). Sending_at st (record m { done = m.done + 1 })) (sym i) at))
-          (λ f. stored (record m { stage = SendWrite }) _ v (λ h. omega arith) (λ h. omega arith) at)
-
-      mask : Sending_at SendMask m → Sending (fed_at SendMask m (get_or ws (base_of n (out_of x) + 2) 0)) ws
-      mask at =
-          let test_is : eqb (low (get_or ws (base_of n (out_of x) + 2) 0)) 0 ≡ eqb (header n found (Mask (out_of x))) 0 = ap (λ (z : ℕ). eqb (low z) 0) k.mask in
-          at_cond (λ (m' : EndMachine). Sending m' ws) (eqb (low (get_or ws (base_of n (out_of x) + 2) 0)) 0) _ _
-          (λ t. record { mask = k.mask; read = k.read; at = (at, sym test_is ∙ t) })
-          (λ f. record { mask = k.mask; read = k.read; at = ap (λ (b : Bool). b && eqb (header n found (Read (out_of x))) (8 * write)) (sym test_is ∙ f) })
-
-      look : Sending_at SendLook m → Sending (fed_at SendLook m (get_or ws (base_of n (out_of x) + 1) 0)) ws
-      look at =
-          let v : ℕ = get_or ws (base_of n (out_of x) + 1) 0 in
-          let test_is : eqb (low v) (8 * m.old) ≡ eqb (header n found (Read (out_of x))) (8 * write) = λ j. eqb (low (k.read j)) (8 * at.0 j) in
-          at_cond (λ (m' : EndMachine). Sending m' ws) (eqb (low v) (8 * m.old)) _ _
-          (λ t. record { mask = k.mask; read = k.read; at = λ j. at.1 j && (sym test_is ∙ t) j })
-          (λ f. record { mask = k.mask; read = k.read; at = λ j. at.1 j && (sym test_is ∙ f) j })
-
-      by_stage : (st : Stage) → m.stage ≡ st → Sending_at st m → next_at st m q ≡ Some op → Sending (fed_at st m (answer_in n op ws)) (written n op ws)
-      by_stage Idle i at h = absurd (cc)
-      by_stage Stopped i at h = absurd (cc)
-      by_stage SendRead i at h = subst (λ (o : Op). Sending (fed_at SendRead m (answer_in n o ws)) (written n o ws)) (op_is _ op h) (asks _ at)
-      by_stage SendCell i at h = subst (λ (o : Op). Sending (fed_at SendCell m (answer_in n o ws)) (written n o ws)) ((λ j. Store (Cell (out_of (sym side j)) (8 * ahead m.cells m.write m.done)) (cond (ltb m.done m.len) (get_or q m.done 0) (trailer m.write))) ∙ op_is _ op h) (cell _ _ i at)
-      by_stage SendWrite i at h = subst (λ (o : Op). Sending (fed_at SendWrite m (answer_in n o ws)) (written n o ws)) ((λ j. Store (Write (out_of (sym side j))) (8 * ahead m.cells m.write (m.len + 1))) ∙ op_is _ op h) (stored _ _ _ (λ h. omega arith) (λ h. omega arith) at)
-      by_stage SendMask i at h = subst (λ (o : Op). Sending (fed_at SendMask m (answer_in n o ws)) (written n o ws)) ((λ j. Load (Mask (out_of (sym side j)))) ∙ op_is _ op h) (mask at)
-      by_stage SendLook i at h = subst (λ (o : Op). Sending (fed_at SendLook m (answer_in n o ws)) (written n o ws)) ((λ j. Load (Read (out_of (sym side j)))) ∙ op_is _ op h) (look at)
-      by_stage SendRaise i at h =
-          let far = signal_least n (peer_of m.side) in
-          let near = base_most n (out_of x) in
-          subst (λ (o : Op). Sending (fed_at SendRaise m (answer_in n o ws)) (written n o ws)) (op_is _ op h) (stored _ (signal_of n (peer_of m.side)) 1 (λ h. omega arith) (λ h. omega arith) at)
-      by_stage _ i at h = absurd at
+  -- a store elsewhere
+  stored : {m m' : EndMachine} {ws : List ℕ} → Sending m ws → (i v : ℕ) → base_of n (out_of x) + 2 ≢ i → base_of n (out_of x) + 1 ≢ i → Sending_at m'.stage m' → Sending m' (set ws i v)
+  stored k i v a b at = record { mask = get_or-set_other _ i (base_of n (out_of x) + 2) v 0 a ∙ k.mask; read = get_or-set_other _ i (base_of n (out_of x) + 1) v 0 b ∙ k.read; at = at }
 
   -- how a send ends
   pub send_ends : (m : EndMachine) (ws : List ℕ) → m.stage ≡ Idle → Sending m ws → IfOk (send_answer m.ended m) (λ r. r ≡ signalled sent_raises)
@@ -216,3 +125,31 @@ module _ (n : ℕ) (x : Side) (write : ℕ) (found : List ℕ) where
       by_ending Full k = tt
       by_ending BadPeer k = tt
       by_ending _ k = absurd k
+
+-- each step of a send
+module _ (write : ℕ) (found : List ℕ) (m : EndMachine) (q ws : List ℕ) where
+  pub send_keeps : (st : Stage) → Sending m.cells m.side write found (record m { stage = st }) ws → Next (Sending m.cells m.side write found) (record m { stage = st }) ws (next_of (record m { stage = st }) q)
+  send_keeps SendRead k =
+      let v : ℕ = get_or ws (base_of m.cells (out_of m.side) + 1) 0 in
+      at_cond (λ (m' : EndMachine). Sending m.cells m.side write found m' ws) (is_index m.cells v) _ _
+      (λ t. at_cond (λ (m' : EndMachine). Sending m.cells m.side write found m' ws) (leb (free m.cells (cell_of v) m.write) (m.len + 1)) _ _ (λ u. record { mask = k.mask; read = k.read; at = tt }) (λ u. record { mask = k.mask; read = k.read; at = k.at }))
+      (λ t. record { mask = k.mask; read = k.read; at = tt })
+  send_keeps SendCell k =
+      let i : ℕ = base_of m.cells (out_of m.side) + 5 + 8 * ahead m.cells m.write m.done / 8 in
+      let w : ℕ = cond (ltb m.done m.len) (get_or q m.done 0) (trailer m.write) in
+      at_cond (λ (m' : EndMachine). Sending m.cells m.side write found m' (set ws i w)) (ltb m.done m.len) _ _
+      (λ t. stored m.cells m.side write found k i _ (λ h. omega arith) (λ h. omega arith) k.at) (λ t. stored m.cells m.side write found k i _ (λ h. omega arith) (λ h. omega arith) k.at)
+  send_keeps SendWrite k = stored m.cells m.side write found k _ _ (λ h. omega arith) (λ h. omega arith) k.at
+  send_keeps SendMask k =
+      rw k.mask (at_cond (λ (m' : EndMachine). Sending m.cells m.side write found m' ws) (eqb (header m.cells found (Mask (out_of m.side))) 0) _ _
+      (λ t. record { mask = k.mask; read = k.read; at = (k.at, t) }) (λ t. record { mask = k.mask; read = k.read; at = rw t }))
+  send_keeps SendLook k =
+      rw (k.read, k.at.0) (at_cond (λ (m' : EndMachine). Sending m.cells m.side write found m' ws) (eqb (header m.cells found (Read (out_of m.side))) (8 * write)) _ _
+      (λ t. record { mask = k.mask; read = k.read; at = λ j. k.at.1 j && t j }) (λ t. record { mask = k.mask; read = k.read; at = λ j. k.at.1 j && t j }))
+  send_keeps SendRaise k =
+      let far = behind m.cells (peer_of m.side) in
+      let near = base_most m.cells (out_of m.side) in
+      stored m.cells m.side write found k _ _ (λ h. omega arith) (λ h. omega arith) k.at
+  send_keeps Idle k = tt
+  send_keeps Stopped k = tt
+  send_keeps _ k = absurd k.at

@@ -12,6 +12,7 @@ use Rattle.ring_pair_laws.specs.Ring.{size, stream, Sending, Sending_at, Seeing,
 use Rattle.ring_pair_laws.specs.Spelled.{Spells, cell_in, StandsFor, stored_at, HasRoom, HasSeen}
 use Rattle.ring_pair_laws.proofs.Turns.{ahead_mod, used_mod, free_mod}
 use Rattle.ring_pair_laws.proofs.Streams.{size-append, size-one, stream_in, word_in}
+use Rattle.ring_pair_laws.proofs.Frame.{back_got, sent_in, free_is}
 
 ahead_bytes : (n i k : ℕ) → ahead (8 * n) (8 * i) (8 * k) ≡ 8 * ahead n i k
 ahead_bytes n i k = grind (arith, nat_tests)
@@ -60,7 +61,7 @@ module _ (n : ℕ) (ws : List ℕ) (r : Ring) (some : 0 < n) (producer consumer 
     read = ok.read_word;
     taken_cells = ends_at _ _ _ _ ok.since ok.start (ok.read ∙ ap (λ (l : List (List ℕ)). size l % n) ok.got_is) (spelled ok.given_back ok.since ok.waiting all_is (omega arith));
     waiting_cells = ends_at _ _ _ _ ok.waiting ok.read (ok.write ∙ ap (λ (l : List (List ℕ)). size l % n) ok.sent_is)
-        (spelled consumer.got ok.waiting [] (ok.sent_is ∙ ap (λ (l : List (List ℕ)). consumer.got ++ l) (sym (append-nil ok.waiting))) (omega (arith, ap size ok.got_is, size-append ok.given_back ok.since)));
+        (spelled consumer.got ok.waiting [] (ok.sent_is ∙ ap (λ (l : List (List ℕ)). consumer.got ++ l) (sym (append-nil ok.waiting))) (back_got _ _ _ _ ok));
     filled = ap (λ (k : ℕ). 8 * k) (omega (arith, size_is, used_is));
   }
     where
@@ -71,7 +72,7 @@ module _ (n : ℕ) (ws : List ℕ) (r : Ring) (some : 0 < n) (producer consumer 
       used_is = (λ j. used n (ok.start j) (ok.write j)) ∙ (used_mod n (size ok.given_back) (size producer.sent) (omega (arith, size_is)) ok.room ∙ omega arith)
 
   longer : size ok.given_back ≤ size producer.sent
-  longer = omega (arith, ap size ok.sent_is, ap size ok.got_is, size-append consumer.got ok.waiting, size-append ok.given_back ok.since)
+  longer = omega (arith, back_got _ _ _ _ ok, sent_in _ _ _ _ ok)
 
   -- a send that has stored so many cells
   has_room : stored_at producer.machine.stage producer.machine ≤ producer.machine.len + 1
@@ -79,7 +80,7 @@ module _ (n : ℕ) (ws : List ℕ) (r : Ring) (some : 0 < n) (producer consumer 
       → HasRoom n ws r producer consumer
   has_room few s =
       let seen : free n producer.machine.seen producer.machine.write ≡ n - (size producer.sent - s.known) = (λ j. free n (s.seen_is j) (ok.write j)) ∙ free_mod n s.known (size producer.sent) (omega (arith, s.before, longer)) (omega (arith, s.room)) in
-      let now : free n consumer.machine.start producer.machine.write ≡ n - (size producer.sent - size ok.given_back) = (λ j. free n (ok.start j) (ok.write j)) ∙ free_mod n (size ok.given_back) (size producer.sent) longer ok.room in
+      let now = free_is _ _ _ _ ok in
       record {
         packet = s.packet;
         room = omega (arith, seen, s.room, s.whole, s.before, longer);
@@ -105,7 +106,7 @@ module _ (n : ℕ) (ws : List ℕ) (r : Ring) (some : 0 < n) (producer consumer 
       → Spells (8 * n) (cell_in n ws r) (8 * consumer.machine.read) (8 * consumer.machine.seen) (first ∷ mid)
   seen_cells first mid rest is seen =
       ends_at _ _ _ _ (first ∷ mid) ok.read seen
-      (spelled consumer.got (first ∷ mid) rest (ok.sent_is ∙ ap (λ (l : List (List ℕ)). consumer.got ++ l) is) (omega (arith, ap size ok.got_is, size-append ok.given_back ok.since)))
+      (spelled consumer.got (first ∷ mid) rest (ok.sent_is ∙ ap (λ (l : List (List ℕ)). consumer.got ++ l) is) (back_got _ _ _ _ ok))
 
   pub takes_first : consumer.machine.stage ≡ TakeFirst → HasSeen n ws r producer consumer
   takes_first i =

@@ -23,16 +23,22 @@ use Rattle.ring_machine.specs.States.{Continues, BeginsSend, BeginsTake, BeginsC
 use Rattle.ring_machine.proofs.Fitting.{inside_store, inside_load}
 use Rattle.ring_core.specs.declared.told.Told.{Told}
 use Rattle.ring_core.specs.Told.{written, answer_in, GoesOn}
-use Rattle.ring_core.proofs.Performed.{ring_went, ring_tells, page_tells, page_next}
+use Rattle.ring_core.proofs.Performed.{ring_went, page_next}
 use Rattle.ring_pair_laws.proofs.Sides.{fed_side}
 use Rattle.ring_machine.proofs.Tables.{fed_cells}
-use Rattle.ring_seat.proofs.Loading.{step_count, fed_count}
+use Rattle.ring_seat.proofs.Loading.{fed_count}
+use Rattle.ring_seat.proofs.PageLists.{stepped_pages}
+use Rattle.ring_seat.proofs.Sided.{invariant_of}
+use Rattle.ring_seat.proofs.WholeLaws.{rule_of}
+use Rattle.ring_seat.specs.Whole.{WholeRule}
+use Rattle.ring_seat.specs.PageRule.{ring_words}
+use Rattle.ring_loan_rule.proofs.Counts.{by_test}
 use Rattle.page_kept.specs.Stepped.{with_call}
 use Rattle.ring_seat.specs.declared.view.View.{View}
 use Rattle.ring_seat.specs.declared.view.View.TheVariants.{Both, One, Spent}
-use Rattle.ring_seat.specs.Seats.{Knows, Holds, Making, made, word_at, stored_by, IsOp, IsNamed, Tells}
-use Rattle.ring_seat.proofs.Counting.{with_told, signals_with}
-use Rattle.ring_seat.proofs.Known.{Known, Goes, known_of, rule_with, counts_with, loads_with, made_known, the_op}
+use Rattle.ring_seat.specs.Seats.{Knows, Holds, IsLoading, states, Making, made, word_at, stored_by, IsOp, IsNamed, Tells}
+use Rattle.ring_seat.proofs.Counting.{with_told, each_told, states_with, signals_with}
+use Rattle.ring_seat.proofs.Known.{Known, Goes, known_of, at_told, made_known, the_op}
 use Rattle.ring_seat.proofs.OneEnd.{lawful_of}
 use Rattle.ring_seat.proofs.Places.{word_small, page_small}
 
@@ -53,17 +59,11 @@ answers (StoreMark x) w = 0
 
 written_is : (n : ℕ) (op : Op) (ws : List ℕ) → written n op ws ≡ set ws (word_at n op) (becomes op (get_or ws (word_at n op) 0))
 written_is n (Load p) ws = sym (set-get_or ws (index_of n p) 0)
-written_is n (Store p v) ws = refl
-written_is n (Raise x) ws = refl
-written_is n (TakeSignal x) ws = refl
-written_is n (StoreMark x) ws = refl
+written_is n _ ws = refl
 
 answer_is : (n : ℕ) (op : Op) (ws : List ℕ) → answer_in n op ws ≡ answers op (get_or ws (word_at n op) 0)
 answer_is n (Load p) ws = refl
-answer_is n (Store p v) ws = refl
-answer_is n (Raise x) ws = refl
-answer_is n (TakeSignal x) ws = refl
-answer_is n (StoreMark x) ws = refl
+answer_is n _ ws = refl
 
 -- what is told after a step of one of them
 end_here : (x : Side) (u : Told) (ends : Side → Told) → with_told x u ends x ≡ u
@@ -101,9 +101,10 @@ holds_with n c id s x u ws it here k = record {
   ends = with_told x u it.ends;
   seat = it.seat;
   seats = views_kept it.ends it.seat id x u here s.views k.rings.sided.both.fits.side it.seats;
-  channel = rule_with n c x ws u it.ends (λ some. (it.channel.pages some).own) k;
-  counts = counts_with c x u it.ends k.count it.counts;
-  loads = λ some. loads_with x u it.ends (k.loads some) (it.loads some);
+  channel = subst (WholeRule n c ws) (λ i y. states_with x u it.ends y i)
+      (record { rings = invariant_of n x (ring_words n ws) u.state (states it.ends) k.rings.sided; pages = λ some. rule_of n c ws (states it.ends) x u.state (it.channel.pages some).own (k.pages some) });
+  counts = each_told (λ (y : Side) (t : Told). t.state.pages.count ≡ c) x u it.ends k.count it.counts;
+  loads = λ some. each_told (λ (y : Side) (t : Told). IsLoading t.state.pages.call t.state.pages.due) x u it.ends (k.loads some) (it.loads some);
   signals = signals_with n x _ u it.ends k.rings;
 }
 
@@ -111,16 +112,14 @@ holds_with n c id s x u ws it here k = record {
 pub allowed : (n c slots id : ℕ) (k : Making) (op : Op) → Goes c k op → Allows (Holds n c) slots id (One k.told, []) (word_at n op) (becomes op) (λ f me. Tells k (answers op f) me)
 allowed n c slots id k op go s it deep at small =
     let x : Side = k.told.state.machine.side in
-    let knows : (k.told ≡ it.ends x) × (id ≡ it.seat x) = it.seats id (One k.told) at in
     let p : Told = it.ends (peer_of x) in
     let v : ℕ = answers op (get_or s.words (word_at n op) 0) in
-    let before : Known n c x s.words k.told p = subst (λ (u : Told). Known n c x s.words u p) (sym knows.0) (known_of n c s.words it.ends it.channel it.counts it.loads it.signals x) in
     let new : Known n c x (set s.words (word_at n op) (becomes op (get_or s.words (word_at n op) 0))) (made k v) p × ((fed k.machine v).stage ≢ Stopped) =
-    subst (λ (z : List ℕ × ℕ). Known n c x z.0 (made k z.1) p × ((fed k.machine z.1).stage ≢ Stopped)) (λ j. (written_is n op s.words j, answer_is n op s.words j)) (made_known n c x s.words k p op before go) in (
+    subst (λ (z : List ℕ × ℕ). Known n c x z.0 (made k z.1) p × ((fed k.machine z.1).stage ≢ Stopped)) (λ j. (written_is n op s.words j, answer_is n op s.words j)) (made_known n c x s.words k p op (known_of n c id s k.told it at) go) in (
       One (made k v),
       keeps,
       tt,
-      holds_with n c id s x (made k v) _ it knows.1 new.0,
+      holds_with n c id s x (made k v) _ it (it.seats id (One k.told) at).1 new.0,
       (refl, new.1, lawful_of n c x _ (made k v) p new.0),
     )
 
@@ -146,31 +145,18 @@ page_word n c (StoreWord q w v) op h e = let z = inside_store c q w v h in subst
 page_word n c (LoadWords q m j) op h e = let z = inside_load c q m j h in subst (λ (o : Op). word_at n o < words_of n + 512 * c) (ap the_op e) (page_small n c q j z.0 (omega (arith, z.1, z.2)))
 
 op_small : (c : ℕ) (k : Making) (op : Op) → IsSound k.machine → Goes c k op → word_at k.machine.cells op < words_of k.machine.cells + 512 * c
-op_small c k op sound g = by (is_busy_at k.machine.stage) refl
-  where
-    by : (b : Bool) → is_busy_at k.machine.stage ≡ b → word_at k.machine.cells op < words_of k.machine.cells + 512 * c
-    by true e = let z = word_small k.machine k.packet op (word_at k.machine.cells op) (words_of k.machine.cells) sound (g.ring e) refl refl in omega (arith, z)
-    by false e = page_word k.machine.cells c k.call op g.call (g.page e)
+op_small c k op sound g =
+    by_test (is_busy_at k.machine.stage) (λ e. let z = word_small k.machine k.packet op (word_at k.machine.cells op) (words_of k.machine.cells) sound (g.ring e) refl refl in omega (arith, z))
+    (λ e. page_word k.machine.cells c k.call op g.call (g.page e))
 
 -- a page call of a channel of as many pages
 pub call_in : (a c : ℕ) (d : PageCall) → is_call_of a d ≡ true → (is_paging d ≡ true → a ≡ c) → is_call_of c d ≡ true
 call_in a c Off h e = refl
-call_in a c (StoreWord q w v) h e = subst (λ (b : ℕ). is_call_of b (StoreWord q w v) ≡ true) (e refl) h
-call_in a c (LoadWords q n j) h e = subst (λ (b : ℕ). is_call_of b (LoadWords q n j) ≡ true) (e refl) h
+call_in a c d h e = subst (λ (b : ℕ). is_call_of b d ≡ true) (e refl) h
 
 -- what is under way, where no call of the rings is, is a page call
 pub paging_of : (st : Stage) (d : PageCall) → is_under_way st d ≡ true → is_busy_at st ≡ false → is_paging d ≡ true
 paging_of st d h e = sym (ap (λ (b : Bool). b || is_paging d) e) ∙ h
-
-pub went : (c : ℕ) (told : Told) (core : PageCore) (m : EndMachine) (p : List ℕ) (op : Op) → PagesFit core m.stage → is_under_way m.stage core.call ≡ true → (is_paging core.call ≡ true → core.count ≡ c)
-    → GoesOn (is_busy_at m.stage) told.state m core.call p → (is_busy_at m.stage ≡ true → next_of m p ≡ Some op) → next_in m core.call p ≡ Some op → Goes c record { told = told; machine = m; call = core.call; packet = p } op
-went c told core m p op fit way pages on ring named = record {
-  goes_on = on;
-  call = call_in core.count c core.call fit.call pages;
-  idle = λ e. fit.idle (paging_of m.stage core.call way e);
-  ring = ring;
-  page = λ e. sym (page_next m core.call p e) ∙ named;
-}
 
 -- a machine that goes on from a state, or begins a call there, is of the same end
 pub continues_side : (e : EndState) (m : EndMachine) (q : List ℕ) → Continues e m q → m.side ≡ e.machine.side
@@ -184,32 +170,40 @@ continues_side e m q (inr c) =
     (⊎_elim (λ (b : BeginsMark e m q). ap (λ (k : EndMachine). k.side) b.0) (λ (b : BeginsPeerMark e m q). ap (λ (k : EndMachine). k.side) b.0)))))) c.1
 
 -- what a step leaves of an end's side, of its cells and of its pages
-pub made_side : (k : Making) (v : ℕ) → GoesOn (is_busy_at k.machine.stage) k.told.state k.machine k.call k.packet → (made k v).state.machine.side ≡ k.told.state.machine.side
-made_side k v go = by (is_busy_at k.machine.stage) refl
-  where
-    by : (b : Bool) → is_busy_at k.machine.stage ≡ b → (made k v).state.machine.side ≡ k.told.state.machine.side
-    by true e =
-        ap (λ (t : Told). t.state.machine.side) (ring_tells _ k.told k.machine k.call k.packet v e)
-        ∙ (fed_side k.machine v k.machine.stage ∙ continues_side k.told.state k.machine k.packet (ring_went _ k.told.state k.machine k.call k.packet e go))
-    by false e = ap (λ (t : Told). t.state.machine.side) (page_tells _ k.told k.machine k.call k.packet v e)
+pub record Stays (old new : EndState) : Type 0 where
+  pub side : new.machine.side ≡ old.machine.side
+  pub cells : new.machine.cells ≡ old.machine.cells
+  pub count : new.pages.count ≡ old.pages.count
 
-pub made_cells : (k : Making) (v : ℕ) → k.machine.cells ≡ k.told.state.machine.cells → (made k v).state.machine.cells ≡ k.told.state.machine.cells
-made_cells k v fits = by (is_busy_at k.machine.stage) refl
-  where
-    by : (b : Bool) → is_busy_at k.machine.stage ≡ b → (made k v).state.machine.cells ≡ k.told.state.machine.cells
-    by true e = ap (λ (t : Told). t.state.machine.cells) (ring_tells _ k.told k.machine k.call k.packet v e) ∙ (fed_cells k.machine v k.machine.stage ∙ fits)
-    by false e = ap (λ (t : Told). t.state.machine.cells) (page_tells _ k.told k.machine k.call k.packet v e)
+pub made_stays : (k : Making) (v : ℕ) → GoesOn (is_busy_at k.machine.stage) k.told.state k.machine k.call k.packet → k.machine.cells ≡ k.told.state.machine.cells → Stays k.told.state (made k v).state
+made_stays k v go fits =
+    at_told (λ (t : Told). Stays k.told.state t.state) (is_busy_at k.machine.stage) k.told k.machine k.call k.packet v
+    (λ e. record {
+      side = fed_side k.machine v k.machine.stage ∙ continues_side k.told.state k.machine k.packet (ring_went _ k.told.state k.machine k.call k.packet e go);
+      cells = fed_cells k.machine v k.machine.stage ∙ fits;
+      count = (stepped_pages k.machine.stage k.machine k.told.state.pages k.packet k.told.state.copied v).count;
+    })
+    (λ e. record { side = refl; cells = refl; count = fed_count k.call (with_call k.call k.told.state.pages) (newest k.told.state.got) v })
 
-pub made_count : (k : Making) (v : ℕ) → (made k v).state.pages.count ≡ k.told.state.pages.count
-made_count k v = by (is_busy_at k.machine.stage) refl
-  where
-    by : (b : Bool) → is_busy_at k.machine.stage ≡ b → (made k v).state.pages.count ≡ k.told.state.pages.count
-    by true e = ap (λ (t : Told). t.state.pages.count) (ring_tells _ k.told k.machine k.call k.packet v e) ∙ step_count k.machine.stage k.machine k.told.state.pages k.packet k.told.state.copied v
-    by false e = ap (λ (t : Told). t.state.pages.count) (page_tells _ k.told k.machine k.call k.packet v e) ∙ fed_count k.call (with_call k.call k.told.state.pages) (newest k.told.state.got) v
-
--- what a call on the table requires, which makes this step of the end that the seat tells of
-pub calls : {T : Type 0} {table board : T} (words n c slots id : ℕ) (me : Me (Unit {0}) View) (base k : Making) (op : Op) (i : ℕ) → table ≡ board → (words ≡ words_of k.machine.cells + 512 * c) × (n ≡ k.machine.cells)
-    → me ≡ (One k.told, []) → base ≡ k → IsSound k.machine → Goes c k op → next_in k.machine k.call k.packet ≡ Some op → i ≡ word_at k.machine.cells op
+-- what a call on the table requires, which makes the next step of the end that the seat tells of
+pub calls : {T : Type 0} {table board : T} (words n c slots id : ℕ) (me : Me (Unit {0}) View) (base : Making) (told : Told) (core : PageCore) (m : EndMachine) (p : List ℕ) (next : Option Op) (op : Op) (i : ℕ) → table ≡ board → (words ≡ words_of m.cells + 512 * c) × (n ≡ m.cells)
+    → me ≡ (One told, []) → base ≡ record { told = told; machine = m; call = core.call; packet = p } → IsSound m → PagesFit core m.stage → is_under_way m.stage core.call ≡ true → (is_paging core.call ≡ true → core.count ≡ c) → GoesOn (is_busy_at m.stage) told.state m core.call p
+    → (is_busy_at m.stage ≡ true → next ≡ next_of m p) → next ≡ next_in m core.call p → next ≡ Some op → i ≡ word_at m.cells op
     → (table ≡ board) × (i < words) × Allows (Holds n c) slots id me i (becomes op) (λ f now. IsNamed base (step slots i (stored_by op) 0 none) × Tells base (answers op f) now)
-calls words n c slots id me base k op i seated sized view is sound go named at =
-    (seated, (let z = op_small c k op sound go in omega (arith, z, at, sized.0)), asks n c slots id me base k view is sized.1 op go named i at)
+calls words n c slots id me base told core m p next op i seated sized view is sound fit way pages on rings whole named at = (
+  seated,
+  (let z = op_small c k op sound go in omega (arith, z, at, sized.0)),
+  asks n c slots id me base k view is sized.1 op go (sym whole ∙ named) i at,
+)
+  where
+    k : Making
+    k = record { told = told; machine = m; call = core.call; packet = p }
+
+    go : Goes c k op
+    go = record {
+      goes_on = on;
+      call = call_in core.count c core.call fit.call pages;
+      idle = λ e. fit.idle (paging_of m.stage core.call way e);
+      ring = λ b. sym (rings b) ∙ named;
+      page = λ e. sym (page_next m core.call p e) ∙ (sym whole ∙ named);
+    }

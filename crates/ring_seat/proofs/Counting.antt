@@ -3,7 +3,7 @@ use Rattle.std.proofs.Common.{◌≡◌, ℕ, ◌+◌, ◌≤◌, ◌==◌, List
 use Rattle.io_edge.specs.declared.side.Side.{Side}
 use Rattle.io_edge.specs.declared.side.Side.TheVariants.{Guest, Host}
 use Rattle.ring_machine.specs.declared.machine.Stage.{Stage}
-use Rattle.ring_machine.specs.declared.machine.Stage.TheVariants.{SendRaise, CommitRaise, PollSignal, MarkRaise}
+use Rattle.ring_machine.specs.declared.machine.Stage.TheVariants.{Idle, PollSignal}
 use Rattle.ring_machine.specs.declared.machine.EndMachine.{EndMachine}
 use Rattle.ring_machine.specs.declared.place.Op.{Op}
 use Rattle.ring_machine.specs.Places.{peer_of, signal_of}
@@ -17,7 +17,7 @@ use Rattle.ring_seat.specs.Seats.{SignalsRaised, states}
 use Rattle.ring_seat.proofs.Waits.{WaitsBy, step_waits, signal_after, raised_after}
 use Rattle.ring_seat.proofs.OwnWakes.{KnownBy}
 use Rattle.ring_seat.proofs.Wakes.{known}
-use Rattle.ring_seat.proofs.Sided.{Sided, sided_of, invariant_of, stepped, continued}
+use Rattle.ring_seat.proofs.Sided.{Sided, sided_of, stepped, continued}
 
 -- what is told of an end and its peer, from this end's side
 pub record Counted (n : ℕ) (x : Side) (ws : List ℕ) (u p : Told) : Type 0 where
@@ -39,9 +39,7 @@ own_raised _ sig v woke raised k l h = omega (arith, h)
 
 -- a raise counts before the signal is taken
 peers_raised : (st : Stage) (sig woke raised : ℕ) → woke + sig ≤ raised → woke + raised_after st sig ≤ raised + raises_at st
-peers_raised SendRaise sig woke raised h = omega (arith, h)
-peers_raised CommitRaise sig woke raised h = omega (arith, h)
-peers_raised MarkRaise sig woke raised h = omega (arith, h)
+peers_raised Idle sig woke raised h = omega (arith, h)
 peers_raised _ sig woke raised h = omega (arith, h)
 
 next_own : (ws : List ℕ) (u p : Told) → Counted u.state.machine.cells u.state.machine.side ws u p → (op : Op) → next_of u.state.machine u.state.packet ≡ Some op
@@ -81,8 +79,12 @@ states_with Guest u ends Host = refl
 states_with Host u ends Guest = refl
 states_with Host u ends Host = refl
 
-pub invariant_with : (n : ℕ) (x : Side) (ws : List ℕ) (u : Told) (ends : Side → Told) → Counted n x ws u (ends (peer_of x)) → ChannelInvariant n ws (states (with_told x u ends))
-invariant_with n x ws u ends c = subst (ChannelInvariant n ws) (λ i y. states_with x u ends y i) (invariant_of n x ws u.state (states ends) c.sided)
+-- what holds of each end
+pub each_told : (P : Side → Told → Type 0) (x : Side) (u : Told) (ends : Side → Told) → P x u → ((y : Side) → P y (ends y)) → (y : Side) → P y (with_told x u ends y)
+each_told P Guest u ends a b Guest = a
+each_told P Guest u ends a b Host = b Host
+each_told P Host u ends a b Guest = b Guest
+each_told P Host u ends a b Host = a
 
 pub signals_with : (n : ℕ) (x : Side) (ws : List ℕ) (u : Told) (ends : Side → Told) → Counted n x ws u (ends (peer_of x)) → (y : Side) → SignalsRaised n ws y (with_told x u ends y) (with_told x u ends (peer_of y))
 signals_with n Guest ws u ends c Guest = c.mine

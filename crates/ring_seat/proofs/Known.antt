@@ -1,9 +1,9 @@
 -- What is told of an end and its peer, with the channel's pages, and how each step of that end keeps it.
-use Rattle.std.proofs.Common.{◌≡◌, ◌≢◌, ℕ, ◌<◌, Bool, true, false, List, take, get_or, set, Option, Some, None, refl, sym, ap, ◌∙◌, subst, arith, ⊎_elim}
+use Rattle.std.proofs.Common.{rules, ltb, ◌≡◌, ◌≢◌, ℕ, ◌<◌, Bool, true, false, List, take, get_or, set, Option, Some, None, refl, sym, ap, ◌∙◌, subst, arith, ⊎_elim}
 use Rattle.std.proofs.lemmas.Bool.Decides.{nat_tests}
 use Rattle.std.proofs.lemmas.List.{take-set-le}
 use Rattle.io_edge.specs.declared.side.Side.{Side}
-use Rattle.io_edge.specs.declared.side.Side.TheVariants.{Guest, Host}
+use Rattle.io_edge.specs.declared.side.Side.TheVariants.{Guest}
 use Rattle.page_kept.specs.Keepers.{MayStore}
 use Rattle.page_kept.specs.Layouts.{layout}
 use Rattle.page_kept.specs.Stepped.{call_fed, with_call, word_in, page_stored, page_loaded}
@@ -24,16 +24,24 @@ use Rattle.ring_machine.specs.Steps.{fed, fed_at, next_of, is_busy_at}
 use Rattle.ring_machine.specs.States.{Begins, Continues, entered}
 use Rattle.ring_machine.proofs.Fitting.{inside_store, inside_load}
 use Rattle.ring_core.specs.declared.told.Told.{Told}
-use Rattle.ring_core.specs.Told.{written, answer_in, told_at, told_next, told_page, GoesOn}
-use Rattle.ring_core.proofs.Performed.{ring_went, ring_tells, page_tells}
-use Rattle.ring_seat.specs.PageRule.{is_unsent_at, is_taking_at, ring_words, OwnPages, PagesPart, page_index}
-use Rattle.ring_seat.specs.Whole.{PagesRule, WholeRule}
-use Rattle.ring_seat.specs.Seats.{IsLoading, Making, made, SignalsRaised, states, word_at}
+use Rattle.ring_core.specs.Told.{written, answer_in, told_at, told_next, told_page, told_step, GoesOn}
+use Rattle.ring_core.proofs.Performed.{ring_went}
+use Rattle.ring_seat.specs.PageRule.{is_unsent_at, is_taking_at, ring_words, PagesPart, page_index}
+use Rattle.ring_seat.specs.Seats.{Holds, IsLoading, Making, made, states, word_at}
 use Rattle.ring_seat.proofs.Places.{word_small}
-use Rattle.ring_seat.proofs.Loading.{step_count, step_loading, fed_count, load_loading, load_called, newest_is, word_is}
-use Rattle.ring_seat.proofs.Counting.{Counted, counted_of, next_counted, at_counted, with_told, states_with, invariant_with}
-use Rattle.ring_seat.proofs.PageSteps.{written_take, answer_take, page_step, part_begun, aside, idle_unsent, idle_taking, store_keeps, pk, pk_is, load_keeps}
-use Rattle.ring_seat.proofs.WholeLaws.{part_of, rule_of}
+use Rattle.ring_seat.proofs.Loading.{step_loading, fed_count, load_loading, load_called, newest_is}
+use Rattle.ring_seat.proofs.PageLists.{stepped_pages}
+use Rattle.ring_seat.proofs.PointLaws.{begins_opens}
+use Rattle.ring_machine.proofs.Sound.{no_true}
+use Rattle.ring_loan_rule.proofs.Counts.{yes_is}
+use Rattle.atomic_table.specs.Table.{State}
+use mathlib.Core.Option.{some}
+use lib.ListN.{get_elem?}
+use Rattle.ring_seat.specs.declared.view.View.{View}
+use Rattle.ring_seat.specs.declared.view.View.TheVariants.{One}
+use Rattle.ring_seat.proofs.Counting.{Counted, counted_of, next_counted, at_counted}
+use Rattle.ring_seat.proofs.PageSteps.{written_take, answer_take, page_step, part_begun, aside, store_keeps, pk, pk_is, load_keeps}
+use Rattle.ring_seat.proofs.WholeLaws.{part_of}
 
 pub record Known (n c : ℕ) (x : Side) (ws : List ℕ) (u p : Told) : Type 0 where
   pub rings : Counted n x (ring_words n ws) u p
@@ -41,38 +49,23 @@ pub record Known (n c : ℕ) (x : Side) (ws : List ℕ) (u p : Told) : Type 0 wh
   pub count : u.state.pages.count ≡ c
   pub loads : c ≢ 0 → IsLoading u.state.pages.call u.state.pages.due
 
-pub known_of : (n c : ℕ) (ws : List ℕ) (ends : Side → Told) → WholeRule n c ws (states ends) → ((x : Side) → (ends x).state.pages.count ≡ c) → (c ≢ 0 → (x : Side) → IsLoading (ends x).state.pages.call (ends x).state.pages.due)
-    → ((x : Side) → SignalsRaised n (ring_words n ws) x (ends x) (ends (peer_of x))) → (x : Side) → Known n c x ws (ends x) (ends (peer_of x))
-known_of n c ws ends r count loads s x = record { rings = counted_of n (ring_words n ws) ends r.rings s x; pages = λ some. part_of n c ws (states ends) x (r.pages some); count = count x; loads = λ some. loads some x }
-
--- the whole rule, with what is told of one of the ends
-pub rule_with : (n c : ℕ) (x : Side) (ws : List ℕ) (u : Told) (ends : Side → Told) → (c ≢ 0 → (y : Side) → OwnPages c y (ends y).state) → Known n c x ws u (ends (peer_of x)) → WholeRule n c ws (states (with_told x u ends))
-rule_with n c x ws u ends own k = record {
-  rings = invariant_with n x (ring_words n ws) u ends k.rings;
-  pages = λ some. subst (PagesRule n c ws) (λ i y. states_with x u ends y i) (rule_of n c ws (states ends) x u.state (own some) (k.pages some));
-}
-
-pub counts_with : (c : ℕ) (x : Side) (u : Told) (ends : Side → Told) → u.state.pages.count ≡ c → ((y : Side) → (ends y).state.pages.count ≡ c) → (y : Side) → (with_told x u ends y).state.pages.count ≡ c
-counts_with c Guest u ends a b Guest = a
-counts_with c Guest u ends a b Host = b Host
-counts_with c Host u ends a b Guest = b Guest
-counts_with c Host u ends a b Host = a
-
-pub loads_with : (x : Side) (u : Told) (ends : Side → Told) → IsLoading u.state.pages.call u.state.pages.due → ((y : Side) → IsLoading (ends y).state.pages.call (ends y).state.pages.due) → (y : Side)
-    → IsLoading (with_told x u ends y).state.pages.call (with_told x u ends y).state.pages.due
-loads_with Guest u ends a b Guest = a
-loads_with Guest u ends a b Host = b Host
-loads_with Host u ends a b Guest = b Guest
-loads_with Host u ends a b Host = a
+-- what the rule of the table says from the side of the end that the view id tells of
+pub known_of : (n c id : ℕ) (s : State (Unit {0}) View) (u : Told) (it : Holds n c s) → get_elem? s.views id ≡ some (One u) → Known n c u.state.machine.side s.words u (it.ends (peer_of u.state.machine.side))
+known_of n c id s u it at =
+    let x : Side = u.state.machine.side in
+    subst (λ (w : Told). Known n c x s.words w (it.ends (peer_of x))) (sym (it.seats id (One u) at).0)
+    (record { rings = counted_of n (ring_words n s.words) it.ends it.channel.rings it.signals x; pages = λ some. part_of n c s.words (states it.ends) x (it.channel.pages some); count = it.counts x; loads = λ some. it.loads some x })
 
 -- a call of the rings that begins, or goes on
 at_known : (n c : ℕ) (x : Side) (ws : List ℕ) (u p : Told) → Known n c x ws u p → (m : EndMachine) (q : List ℕ) → Continues u.state m q → Known n c x ws (told_at u m q) p
-at_known n c x ws u p k m q go = record { rings = at_counted n x (ring_words n ws) u p k.rings m q go; pages = λ some. part some go; count = k.count; loads = k.loads }
-  where
-    part : c ≢ 0 → Continues u.state m q → PagesPart n c ws x (entered u.state m q) p.state
-    part some go =
-        ⊎_elim (λ (z : (m ≡ u.state.machine) × (q ≡ u.state.packet)). subst (λ (w : EndMachine × List ℕ). PagesPart n c ws x (entered u.state w.0 w.1) p.state) (λ j. (sym z.0 j, sym z.1 j)) (k.pages some))
-        (λ (b : Begins u.state m q). part_begun n c x ws u.state p.state m q some k.rings.sided.both.fits.side (k.pages some) b) go
+at_known n c x ws u p k m q go = record {
+  rings = at_counted n x (ring_words n ws) u p k.rings m q go;
+  pages = λ some.
+      ⊎_elim (λ (z : (m ≡ u.state.machine) × (q ≡ u.state.packet)). subst (λ (w : EndMachine × List ℕ). PagesPart n c ws x (entered u.state w.0 w.1) p.state) (λ j. (sym z.0 j, sym z.1 j)) (k.pages some))
+      (λ (b : Begins u.state m q). part_begun n c x ws u.state p.state m q some k.rings.sided.both.fits.side (k.pages some) (begins_opens u.state m q k.rings.sided.mine.point b)) go;
+  count = k.count;
+  loads = k.loads;
+}
 
 -- a step of the rings
 next_known : (n c : ℕ) (x : Side) (ws : List ℕ) (u p : Told) → Known n c x ws u p → (op : Op) → next_of u.state.machine u.state.packet ≡ Some op → Known n c x (written n op ws) (told_next u (answer_in n op ws)) p
@@ -84,8 +77,8 @@ next_known n c x ws u p k op h =
     record {
       rings = subst (λ (z : List ℕ × ℕ). Counted n x z.0 (told_next u z.1) p) (λ j. (sym (written_take n op ws small) j, answer_take n op ws small j)) (next_counted n x (ring_words n ws) u p k.rings op h);
       pages = λ some. page_step n c x ws e p.state some k.rings.sided (k.pages some) op h;
-      count = step_count e.machine.stage e.machine e.pages e.packet e.copied v ∙ k.count;
-      loads = λ some. step_loading e.machine.stage e.machine e.pages e.packet e.copied v (λ t. (k.pages some).mine.taking t) (k.loads some);
+      count = (stepped_pages e.machine.stage e.machine e.pages e.packet e.copied v).count ∙ k.count;
+      loads = λ some. step_loading e.machine.stage e.machine e.pages e.packet e.copied v (λ t. ((k.pages some).mine.sending t).clear) (k.pages some).mine.taking (k.loads some);
     }
 
 -- an end with other pages
@@ -94,33 +87,21 @@ counted_aside n x ws u p j steps k = record { sided = aside n x ws u.state p.sta
 
 -- the pages' rule doesn't see the page call
 part_called : (n c : ℕ) (x : Side) (ws : List ℕ) (e p : EndState) (j : Kept) (d : PageCall) → PagesPart n c ws x (with_pages e j) p → PagesPart n c ws x (with_pages e (with_call d j)) p
-part_called n c x ws e p j d g = record {
-  wide = g.wide;
-  mine = record { count = g.mine.count; listed = g.mine.listed; copied = g.mine.copied; sent = g.mine.sent; sending = g.mine.sending; taking = g.mine.taking };
-  theirs = g.theirs;
-  owned = g.owned;
-}
-
-some_of : (c q : ℕ) → q < c → c ≢ 0
-some_of c q a z = omega (arith, a, z)
+part_called n c x ws e p j d g = search rules
 
 -- a store of a page word
 store_known : (n c : ℕ) (x : Side) (ws : List ℕ) (u p : Told) (q w v : ℕ) → Known n c x ws u p → is_call_of c (StoreWord q w v) ≡ true → ContinuesPage u.state (StoreWord q w v)
     → Known n c x (set ws (page_index n q w) v) (told_page u (StoreWord q w v) 0) p
 store_known n c x ws u p q w v k h go = ⊎_elim (λ (z : StoreWord q w v ≡ u.state.pages.call). absurd (subst (λ (d : PageCall). IsLoading d u.state.pages.due) (sym z) (k.loads some))) begun go
   where
-    e : EndState
-    e = u.state
-
     some : c ≢ 0
-    some = some_of c q (inside_store c q w v h).0
+    some z = omega (arith, z, (inside_store c q w v h).0)
 
     begun : BeginsPage u.state (StoreWord q w v) → Known n c x (set ws (page_index n q w) v) (told_page u (StoreWord q w v) 0) p
     begun b =
         let may : MayStore (layout c) x u.state.pages q w = subst (λ (z : ℕ × Side). MayStore (layout z.0) z.1 u.state.pages q w) (λ j. (k.count j, k.rings.sided.both.fits.side j)) b.3 in
         let same : take (words_of n) (set ws (page_index n q w) v) ≡ take (words_of n) ws = take-set-le (words_of n) ws (page_index n q w) v (omega arith) in
-        let idle = b.0 in
-        let part = (store_keeps n c x ws u.state p.state some k.rings.sided (k.pages some) (idle_unsent u.state.machine.stage idle) (idle_taking u.state.machine.stage idle) q w v may).1 in
+        let part = (store_keeps n c x ws u.state p.state some k.rings.sided (k.pages some) (no_true (ap is_unsent_at b.0)) (no_true (ap is_taking_at b.0)) q w v may).1 in
         record {
           rings = subst (λ (z : List ℕ). Counted n x z (told_page u (StoreWord q w v) 0) p) (sym same) (counted_aside n x (ring_words n ws) u p _ _ k.rings);
           pages = λ _. part_called n c x _ u.state p.state (page_stored u.state.pages q w v) Off part;
@@ -134,7 +115,7 @@ load_known : (n c : ℕ) (x : Side) (ws : List ℕ) (u p : Told) (q m j : ℕ) �
 load_known n c x ws u p q m j k h go =
     let e : EndState = u.state in
     let inside = inside_load c q m j h in
-    let some : c ≢ 0 = some_of c q inside.0 in
+    let some : c ≢ 0 = λ z. omega (arith, z, inside.0) in
     let due : e.pages.due ≡ Loads q m j =
     ⊎_elim (λ (z : LoadWords q m j ≡ e.pages.call). subst (λ (d : PageCall). IsLoading d e.pages.due) (sym z) (k.loads some)) (λ (b : BeginsPage e (LoadWords q m j)). b.2) go in
     let g = k.pages some in
@@ -145,7 +126,7 @@ load_known n c x ws u p q m j k h go =
     let last : List ℕ = pk n c x ws e p.state some k.rings.sided g unsent untaken q m j due inside.0 small in
     let part = (load_keeps n c x ws e p.state some k.rings.sided g unsent untaken q m j due inside.0 small).1 in
     let named : newest e.got ≡ last = newest_is e.got _ last (pk_is n c x ws e p.state some k.rings.sided g unsent untaken q m j due inside.0 small) in
-    let read : word_in (words_of n) ws q j ≡ v = word_is (words_of n) ws q j (grind (arith, nat_tests, small)) in
+    let read : word_in (words_of n) ws q j ≡ v = yes_is (ltb j 512) _ _ (grind (arith, nat_tests, small)) in
     let d : PageCall = call_fed (LoadWords q m j) in
     let kept : with_call d (page_loaded e.pages last (word_in (words_of n) ws q j)) ≡ with_call d (page_loaded (with_call (LoadWords q m j) e.pages) (newest e.got) v) =
     (λ i. with_call d (page_loaded e.pages (sym named i) (read i))) ∙ sym (load_called (LoadWords q m j) d e.pages (newest e.got) v) in
@@ -180,19 +161,17 @@ pub record Goes (c : ℕ) (k : Making) (op : Op) : Type 0 where
   pub ring : is_busy_at k.machine.stage ≡ true → next_of k.machine k.packet ≡ Some op
   pub page : is_busy_at k.machine.stage ≡ false → page_op k.call ≡ Some op
 
-page_went : (b : Bool) (s : EndState) (m : EndMachine) (d : PageCall) (p : List ℕ) → b ≡ false → GoesOn b s m d p → ContinuesPage s d
-page_went b s m d p e h = subst (λ (x : Bool). GoesOn x s m d p) e h
+-- what is told after a step, by what is under way
+pub at_told : (P : Told → Type 0) (b : Bool) (u : Told) (m : EndMachine) (d : PageCall) (p : List ℕ) (v : ℕ) → (b ≡ true → P (told_next (told_at u m p) v)) → (b ≡ false → P (told_page u d v)) → P (told_step b u m d p v)
+at_told P true u m d p v t f = t refl
+at_told P false u m d p v t f = f refl
 
 pub made_known : (n c : ℕ) (x : Side) (ws : List ℕ) (k : Making) (p : Told) (op : Op) → Known n c x ws k.told p → Goes c k op → Known n c x (written n op ws) (made k (answer_in n op ws)) p × ((fed k.machine (answer_in n op ws)).stage ≢ Stopped)
-made_known n c x ws k p op known g = by (is_busy_at k.machine.stage) refl
-  where
-    by : (b : Bool) → is_busy_at k.machine.stage ≡ b → Known n c x (written n op ws) (made k (answer_in n op ws)) p × ((fed k.machine (answer_in n op ws)).stage ≢ Stopped)
-    by true e =
-        let go = ring_went _ k.told.state k.machine k.call k.packet e g.goes_on in
-        let f = next_known n c x ws (told_at k.told k.machine k.packet) p (at_known n c x ws k.told p known k.machine k.packet go) op (g.ring e) in
-        (subst (λ (t : Told). Known n c x (written n op ws) t p) (sym (ring_tells _ k.told k.machine k.call k.packet (answer_in n op ws) e)) f, f.rings.sided.mine.goes)
-    by false e =
-        let go = page_went _ k.told.state k.machine k.call k.packet e g.goes_on in
-        let f = page_known n c x ws k.told p k.call op known g.call go (g.page e) in
-        let rests : (fed k.machine (answer_in n op ws)).stage ≡ Idle = ap (λ (st : Stage). (fed_at st k.machine (answer_in n op ws)).stage) (g.idle e) ∙ g.idle e in
-        (subst (λ (t : Told). Known n c x (written n op ws) t p) (sym (page_tells _ k.told k.machine k.call k.packet (answer_in n op ws) e)) f, λ z. (let w : Idle ≡ Stopped = sym rests ∙ z in (cc)))
+made_known n c x ws k p op known g =
+    at_told (λ (t : Told). Known n c x (written n op ws) t p × ((fed k.machine (answer_in n op ws)).stage ≢ Stopped)) (is_busy_at k.machine.stage) k.told k.machine k.call k.packet (answer_in n op ws)
+    (λ e.
+    let f = next_known n c x ws (told_at k.told k.machine k.packet) p (at_known n c x ws k.told p known k.machine k.packet (ring_went _ k.told.state k.machine k.call k.packet e g.goes_on)) op (g.ring e) in
+    (f, f.rings.sided.mine.goes))
+    (λ e.
+    let rests : (fed k.machine (answer_in n op ws)).stage ≡ Idle = ap (λ (st : Stage). (fed_at st k.machine (answer_in n op ws)).stage) (g.idle e) ∙ g.idle e in
+    (page_known n c x ws k.told p k.call op known g.call (subst (λ (b : Bool). GoesOn b k.told.state k.machine k.call k.packet) e g.goes_on) (g.page e), λ z. (let w : Idle ≡ Stopped = sym rests ∙ z in (cc))))

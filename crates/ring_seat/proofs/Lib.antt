@@ -10,11 +10,10 @@ pub mod Counting
 pub mod Allowed
 pub mod Sharing
 pub mod Reading
-pub mod PageStages
 pub mod PageLists
+pub mod Loading
 pub mod PageSteps
 pub mod WholeLaws
 pub mod Places
-pub mod Loading
 pub mod Known
 pub mod OneEnd

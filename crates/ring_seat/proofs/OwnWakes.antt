@@ -1,19 +1,20 @@
 -- Each step of an end keeps what its own looks have found.
-use Rattle.std.proofs.Common.{◌≡◌, ◌≢◌, ◌⊎◌, ℕ, ◌*◌, ◌≤◌, Bool, true, false, ◌||◌, not, cond, ltb, eqb, refl, sym, ap, ◌∙◌, subst, arith, inl, inr}
+use Rattle.std.proofs.Common.{rules, ◌≡◌, ◌≢◌, ◌⊎◌, ℕ, ◌*◌, ◌≤◌, Bool, true, false, ◌||◌, not, cond, ltb, eqb, refl, sym, ap, ◌∙◌, subst, arith, inl, inr}
 use Rattle.std.proofs.lemmas.Bool.Decides.{nat_tests}
 use Rattle.ring_machine.specs.declared.machine.Stage.{Stage}
-use Rattle.ring_machine.specs.declared.machine.Stage.TheVariants.{Idle, Stopped, SendMask, SendLook, CommitFeature, CommitPending, CommitWrite, ArmWrite, ArmRead, ArmMark, ArmUndoMask, PollSignal, MarkRaise}
+use Rattle.ring_machine.specs.declared.machine.Stage.TheVariants.{Idle, Stopped, SendMask, SendLook, CommitFeature, CommitPending, CommitWrite, ArmWrite, ArmRead, ArmMark, PollSignal, MarkRaise}
 use Rattle.ring_machine.specs.declared.machine.Ending.TheVariants.{NoSignal}
 use Rattle.ring_machine.specs.declared.machine.EndMachine.{EndMachine}
 use Rattle.ring_machine.specs.Places.{low, is_index, cell_of, free}
 use Rattle.ring_machine.specs.Steps.{IsSound, fed, fed_at, finds_room, sleeps_at}
-use Rattle.ring_machine.proofs.Sound.{at_cond}
+use Rattle.ring_machine.proofs.Sound.{at_cond, no_true}
 use Rattle.ring_pair_laws.specs.Ring.{is_marking_at}
 use Rattle.ring_pair_laws.proofs.Turns.{low_is, cell_here}
 use Rattle.ring_seat.specs.Points.{AtPoint, pending_of}
 use Rattle.ring_seat.specs.Waking.{packets_looked_at, packets_looked, room_looked_at, room_looked, IsSendingFrom, IsGivingBack}
 use Rattle.ring_seat.proofs.Waits.{signal_after}
-use Rattle.ring_seat.proofs.WakeTables.{Shut, is_shut_at, shut_by}
+use Rattle.ring_seat.proofs.PointLaws.{awake_at}
+use Rattle.ring_seat.proofs.WakeTables.{Shut}
 
 -- What an end's looks have found, by the machines of both ends and the end's signal
 pub record Waking (sig : ℕ) (m k : EndMachine) : Type 0 where
@@ -46,13 +47,19 @@ shut_waking sig m k s = record {
     room_shut ArmMark h = absurd (cc)
     room_shut _ h = refl
 
-is_down : (b : Bool) → ◌≡◌ {A = ℕ} (cond b 1 0) 0 → b ≡ false
+pub is_down : (b : Bool) → ◌≡◌ {A = ℕ} (cond b 1 0) 0 → b ≡ false
 is_down true h = absurd (omega arith)
 is_down false h = refl
 
-or_yes : (b c : Bool) → c ≡ true → (b || c) ≡ true
+pub or_yes : (b c : Bool) → c ≡ true → (b || c) ≡ true
 or_yes true c i = refl
 or_yes false c i = i
+
+-- a look's three cases
+pub three : {A A' B C C' : Type 0} → (A → A') → (C → C') → A ⊎ (B ⊎ C) → A' ⊎ (B ⊎ C')
+three f g (inl a) = inl (f a)
+three f g (inr (inl b)) = inr (inl b)
+three f g (inr (inr c)) = inr (inr (g c))
 
 -- the signal was down
 down : {A B : Type 0} {sig : ℕ} → sig ≡ 0 → A ⊎ ((sig ≢ 0) ⊎ B) → A ⊎ ((◌≢◌ {A = ℕ} 0 0) ⊎ B)
@@ -61,19 +68,12 @@ down z (inr (inl b)) = absurd (b z)
 down z (inr (inr c)) = inr (inr c)
 
 module _ (m k : EndMachine) (v sig : ℕ) (s : IsSound m) (p : AtPoint m) (t : IsSound k) (same : k.cells ≡ m.cells) (w : Waking sig m k) where
-  awake_at : (st : Stage) → m.stage ≡ st → sleeps_at st ≡ false → m.asleep ≡ false
-  awake_at st e dozes = by_case m.asleep refl
-    where
-      by_case : (b : Bool) → m.asleep ≡ b → b ≡ false
-      by_case true h = let yes : sleeps_at st ≡ true = sym (ap sleeps_at e) ∙ (s.asleep h).2 in absurd (cc)
-      by_case false h = refl
+  abbrev At : EndMachine → Type 0
+  At c = Waking sig c k
 
-  closed : (st : Stage) → m.stage ≡ st → sleeps_at st ≡ false → is_shut_at st ≡ true → (c : ℕ) → Waking c (fed_at st m v) k
-  closed st e a b c = shut_waking c _ k (shut_by m v (awake_at st e a) st e b)
-
-  -- an arm that undoes what it stored
-  undone : (st : Stage) → m.stage ≡ st → sleeps_at st ≡ false → (c : EndMachine) → c.stage ≡ ArmUndoMask → c.asleep ≡ m.asleep → Waking sig c k
-  undone st e a c i same_asleep = shut_waking sig c k (record { stage = ap packets_looked_at i; awake = same_asleep ∙ awake_at st e a })
+  -- an end at no look, or an arm that undoes what it stored
+  closed : (st : Stage) → m.stage ≡ st → sleeps_at st ≡ false → (c : ℕ) (a : EndMachine) → packets_looked_at a.stage ≡ false → a.asleep ≡ m.asleep → Waking c a k
+  closed st e dozes c a shut same_asleep = shut_waking c a k (record { stage = shut; awake = same_asleep ∙ awake_at m s st e dozes })
 
   packets_at : (st : Stage) → m.stage ≡ st → packets_looked_at st ≡ true → (k.write ≡ m.read) ⊎ ((sig ≢ 0) ⊎ IsSendingFrom k m.read)
   packets_at st e h = w.packets (ap (λ (b : Bool). b || m.asleep) (ap packets_looked_at e ∙ h))
@@ -108,11 +108,23 @@ module _ (m k : EndMachine) (v sig : ℕ) (s : IsSound m) (p : AtPoint m) (t : I
   own_at : (st : Stage) → m.stage ≡ st → KnownBy st sig k v → Waking (signal_after st sig) (fed_at st m v) k
   own_at Idle e l = w
   own_at Stopped e l = w
-  own_at ArmWrite e l = at_cond (λ (c : EndMachine). Waking sig c k) (eqb (low v) (8 * m.read)) _ _ (λ t0. at_cond (λ (c : EndMachine). Waking sig c k) (eqb m.want 0) _ _ (λ u. record { packets = λ h. inl (none_there l t0); room = λ h wants. absurd (wants (grind (arith, nat_tests))); mark = λ h. absurd (let up : m.asleep ≡ true = h in let down : m.asleep ≡ false = awake_at ArmWrite e refl in cc) }) (λ u. record { packets = λ h. inl (none_there l t0); room = λ h. absurd (let up : m.asleep ≡ true = h in let down : m.asleep ≡ false = awake_at ArmWrite e refl in cc); mark = λ h. absurd (let up : m.asleep ≡ true = h in let down : m.asleep ≡ false = awake_at ArmWrite e refl in cc) })) (λ t0. undone ArmWrite e refl _ refl refl)
-  own_at ArmRead e l = at_cond (λ (c : EndMachine). Waking sig c k) (finds_room m v) _ _ (λ t0. undone ArmRead e refl _ refl refl) (λ t0. record { packets = λ h. packets_at ArmRead e refl; room = λ h wants. inl (no_room l t0); mark = λ h. absurd (let up : m.asleep ≡ true = h in let down : m.asleep ≡ false = awake_at ArmRead e refl in cc) })
-  own_at ArmMark e l = at_cond (λ (c : EndMachine). Waking sig c k) (eqb v 0) _ _ (λ t0. record { packets = λ h. packets_at ArmMark e refl; room = λ h. room_at ArmMark e refl; mark = λ h. inl (is_down (k.marked || is_marking_at k.stage) (sym l ∙ grind (arith, nat_tests))) }) (λ t0. undone ArmMark e refl _ refl refl)
+  own_at ArmWrite e l =
+      let a = awake_at m s ArmWrite e refl in
+      at_cond At (eqb (low v) (8 * m.read)) _ _
+      (λ t0. at_cond At (eqb m.want 0) _ _
+      (λ u. record { packets = λ h. inl (none_there l t0); room = λ h wants. absurd (wants (grind (arith, nat_tests))); mark = λ h. absurd (no_true a h) })
+      (λ u. record { packets = λ h. inl (none_there l t0); room = λ h. absurd (no_true a h); mark = λ h. absurd (no_true a h) }))
+      (λ t0. closed ArmWrite e refl sig _ refl refl)
+  own_at ArmRead e l =
+      at_cond At (finds_room m v) _ _
+      (λ t0. closed ArmRead e refl sig _ refl refl)
+      (λ t0. record { packets = λ h. packets_at ArmRead e refl; room = λ h wants. inl (no_room l t0); mark = λ h. absurd (no_true (awake_at m s ArmRead e refl) h) })
+  own_at ArmMark e l =
+      at_cond At (eqb v 0) _ _
+      (λ t0. record { packets = λ h. packets_at ArmMark e refl; room = λ h. room_at ArmMark e refl; mark = λ h. inl (is_down (k.marked || is_marking_at k.stage) (sym l ∙ grind (arith, nat_tests))) })
+      (λ t0. closed ArmMark e refl sig _ refl refl)
   own_at PollSignal e l = at_cond (λ (c : EndMachine). Waking 0 c k) (eqb v 0) _ _ (λ t0. slept (p.polls e) (sym l ∙ grind (arith, nat_tests))) (λ t0. shut_waking 0 _ k (record { stage = refl; awake = refl }))
-  own_at _ e l = closed _ e refl refl sig
+  own_at _ e l = let a = ap packets_looked_at e in closed _ e refl sig _ (search rules) (search rules)
 
   pub own_waking : KnownBy m.stage sig k v → Waking (signal_after m.stage sig) (fed m v) k
   own_waking l = own_at m.stage refl l

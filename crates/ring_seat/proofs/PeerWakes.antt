@@ -1,8 +1,8 @@
 -- Each step of an end keeps what its peer's looks have found: it raises the peer's signal where the peer may wait for what the step did.
-use Rattle.std.proofs.Common.{◌≡◌, ◌≢◌, ◌⊎◌, ℕ, ◌*◌, ◌%◌, ◌<◌, ◌≤◌, Bool, true, false, ◌||◌, ◌&&◌, not, cond, eqb, refl, sym, ap, ◌∙◌, subst, arith, inl, inr}
+use Rattle.std.proofs.Common.{rules, ⊎_elim, ◌≡◌, ◌≢◌, ◌⊎◌, ℕ, ◌*◌, ◌%◌, ◌<◌, ◌≤◌, Bool, true, false, ◌||◌, ◌&&◌, not, cond, eqb, refl, sym, ap, ◌∙◌, subst, arith, inl, inr}
 use Rattle.std.proofs.lemmas.Bool.Decides.{nat_tests}
 use Rattle.ring_machine.specs.declared.machine.Stage.{Stage}
-use Rattle.ring_machine.specs.declared.machine.Stage.TheVariants.{SendWrite, SendMask, SendLook, SendRaise, CommitRead, CommitFeature, CommitPending, CommitWrite, CommitRaise, ArmPending, ArmRead, ArmMark, MarkStore, MarkRaise}
+use Rattle.ring_machine.specs.declared.machine.Stage.TheVariants.{Idle, SendWrite, SendMask, SendLook, SendRaise, CommitRead, CommitFeature, CommitPending, CommitWrite, CommitRaise, ArmPending, ArmRead, ArmMark, MarkStore, MarkRaise}
 use Rattle.ring_machine.specs.declared.machine.EndMachine.{EndMachine}
 use Rattle.ring_machine.specs.Places.{low, is_index, free, raises_on_commit}
 use Rattle.ring_machine.specs.Steps.{IsSound, fed, fed_at, makes_room, sleeps_at, is_arming_at}
@@ -14,52 +14,29 @@ use Rattle.ring_seat.specs.Points.{AtPoint, is_unmasked_at, pending_at, pending_
 use Rattle.ring_seat.specs.Waking.{packets_looked_at, packets_looked, room_looked_at, room_looked, is_sent_at, is_weighing_at, IsSendingFrom, IsGivingBack}
 use Rattle.ring_seat.proofs.Waits.{raised_after}
 use Rattle.ring_seat.proofs.WakeTables.{IsGiven, write_kept, start_kept, mark_kept}
-use Rattle.ring_seat.proofs.OwnWakes.{Waking, KnownBy}
-
--- a look's three cases
-three : {A A' B C C' : Type 0} → (A → A') → (C → C') → A ⊎ (B ⊎ C) → A' ⊎ (B ⊎ C')
-three f g (inl a) = inl (f a)
-three f g (inr (inl b)) = inr (inl b)
-three f g (inr (inr c)) = inr (inr (g c))
+use Rattle.ring_seat.proofs.OwnWakes.{Waking, KnownBy, three}
 
 -- the second case always holds once the signal is raised
 up : {A C : Type 0} → A ⊎ ((◌≢◌ {A = ℕ} 1 0) ⊎ C)
 up = inr (inl (λ h. omega arith))
 
-looking_unmasked : (st : Stage) → packets_looked_at st ≡ true → is_unmasked_at st ≡ true
-looking_unmasked ArmRead h = refl
-looking_unmasked ArmMark h = refl
-looking_unmasked _ h = absurd (cc)
+looked_unmasked : (st : Stage) (a : Bool) → (packets_looked_at st || a) ≡ true → (is_unmasked_at st || a) ≡ true
+looked_unmasked Idle a h = h
+looked_unmasked _ a h = search rules
 
-looking_arms : (st : Stage) → packets_looked_at st ≡ true → is_arming_at st ≡ true
-looking_arms ArmRead h = refl
-looking_arms ArmMark h = refl
-looking_arms _ h = absurd (cc)
-
-room_packets : (st : Stage) → room_looked_at st ≡ true → packets_looked_at st ≡ true
-room_packets ArmMark h = refl
-room_packets _ h = absurd (cc)
+looked_commits : (st : Stage) (a : Bool) → (packets_looked_at st || a) ≡ true → (is_arming_at st ≡ true) ⊎ (a ≡ true)
+looked_commits ArmRead a h = inl refl
+looked_commits ArmMark a h = inl refl
+looked_commits _ a h = inr h
 
 -- k sleeps, and m makes a step
 module _ (m k : EndMachine) (v own sig : ℕ) (s : IsSound m) (t : IsSound k) (q : AtPoint k) (given : IsGiven m) (same : k.cells ≡ m.cells) (w : Waking sig k m) where
   -- the sleeper's mask is 0, and it has given back all that it took
   unmasked : packets_looked k ≡ true → k.masked ≡ false
-  unmasked h = q.masked ∙ ap not (by_stage (packets_looked_at k.stage) refl)
-    where
-      by_stage : (b : Bool) → packets_looked_at k.stage ≡ b → (is_unmasked_at k.stage || k.asleep) ≡ true
-      by_stage true e = ap (λ (c : Bool). c || k.asleep) (looking_unmasked k.stage e)
-      by_stage false e = let a : k.asleep ≡ true = sym (ap (λ (c : Bool). c || k.asleep) e) ∙ h in or_yes (is_unmasked_at k.stage) k.asleep a
-        where
-          or_yes : (b c : Bool) → c ≡ true → (b || c) ≡ true
-          or_yes true c i = refl
-          or_yes false c i = i
+  unmasked h = q.masked ∙ ap not (looked_unmasked k.stage k.asleep h)
 
   committed : packets_looked k ≡ true → k.start ≡ k.read
-  committed h = by_stage (packets_looked_at k.stage) refl
-    where
-      by_stage : (b : Bool) → packets_looked_at k.stage ≡ b → k.start ≡ k.read
-      by_stage true e = t.arming (looking_arms k.stage e)
-      by_stage false e = (t.asleep (sym (ap (λ (c : Bool). c || k.asleep) e) ∙ h)).1
+  committed h = ⊎_elim t.arming (λ a. (t.asleep a).1) (looked_commits k.stage k.asleep h)
 
   -- the room that the sleeper wants is what it stored
   stored_want : room_looked k ≡ true → pending_of k ≡ k.want

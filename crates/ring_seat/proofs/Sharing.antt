@@ -1,5 +1,5 @@
 -- The table at the start, its view cut in two, two views put together, and what the whole view tells.
-use Rattle.std.proofs.Common.{◌≡◌, ◌≢◌, ℕ, Bool, true, false, zero, suc, ◌+◌, ◌*◌, ◌<◌, ◌≤◌, ◌⊎◌, ltb, cond, List, [], ◌∷◌, ◌++◌, length, take, get_or, set, replicate, refl, sym, ap, ◌∙◌, subst, arith, inl, inr, ⊎_elim, length-set}
+use Rattle.std.proofs.Common.{rules, ◌≡◌, ◌≢◌, ℕ, true, zero, suc, ◌+◌, ◌*◌, ◌≤◌, ◌⊎◌, List, [], ◌∷◌, ◌++◌, length, take, get_or, set, replicate, refl, sym, ap, ◌∙◌, subst, arith, inl, inr, ⊎_elim, length-set}
 use Rattle.std.proofs.Math.Seq.{take-append_seam}
 use Rattle.std.proofs.lemmas.List.{set-get_or, get_or-set_same, get_or-set_other, get_or-append_right, length-append, length-replicate}
 use mathlib.Core.Option.{some, some-injective, some-ne-none}
@@ -10,11 +10,11 @@ use Rattle.io_edge.specs.declared.side.Side.{Side}
 use Rattle.io_edge.specs.declared.side.Side.TheVariants.{Guest, Host}
 use Rattle.ring_core.specs.declared.told.Told.{Told}
 use Rattle.ring_machine.specs.declared.state.EndState.{EndState}
-use Rattle.ring_machine.specs.Places.{signal_of, words_of, peer_of}
+use Rattle.ring_machine.specs.Places.{words_of, peer_of}
 use Rattle.ring_machine.specs.Steps.{machine_new}
 use Rattle.ring_core.specs.Told.{opening as opening_words, opening_with}
 use Rattle.ring_pair_laws.specs.Ring.{ChannelOk}
-use Rattle.ring_pair_laws.proofs.Opening.{still, new_channel}
+use Rattle.ring_pair_laws.proofs.Opening.{still, opening_length, new_channel}
 use Rattle.ring_pair_laws.proofs.Settling.{guest_front, host_front, one_run, guest_drained, host_drained}
 use Rattle.ring_seat.specs.declared.view.View.{View}
 use Rattle.ring_seat.specs.declared.view.View.TheVariants.{Both, One, Spent}
@@ -26,7 +26,7 @@ use Rattle.ring_seat.specs.Whole.{WholeRule, new_paged}
 use Rattle.ring_seat.proofs.PointLaws.{new_point}
 use Rattle.ring_seat.proofs.Allowed.{holds_with}
 use Rattle.ring_seat.proofs.Known.{Known, known_of}
-use Rattle.ring_seat.proofs.WholeLaws.{new_keeps, end_tells, front_tells}
+use Rattle.ring_seat.proofs.WholeLaws.{zeros_at, new_keeps, end_tells, front_tells}
 use Rattle.page_kept.specs.Stepped.{word_in}
 
 at_end : {A : Type 0} (l : List A) (a b : A) (j : ℕ) → get_elem? (l ++ a ∷ []) j ≡ some b → (get_elem? l j ≡ some b) ⊎ ((j ≡ length l) × (a ≡ b))
@@ -45,51 +45,9 @@ of_two P a b Host = b
 
 -- the words of a new channel
 module _ (n : ℕ) where
-  abbrev zeros : List ℕ
-  zeros = replicate (words_of n) 0
-
-  abbrev one : List ℕ
-  one = set zeros (n + 5 + 2) 1
-
-  abbrev two : List ℕ
-  two = set one (n + 5 + 4) 1
-
-  abbrev three : List ℕ
-  three = set two 2 1
-
-  one_long : length one ≡ words_of n
-  one_long = length-set zeros (n + 5 + 2) 1 ∙ length-replicate (words_of n) 0
-
-  two_long : length two ≡ words_of n
-  two_long = length-set one (n + 5 + 4) 1 ∙ one_long
-
-  three_long : length three ≡ words_of n
-  three_long = length-set two 2 1 ∙ two_long
-
-  host_mask : get_or (opening_words n) 2 0 ≡ 1
-  host_mask = get_or-set_other three 4 2 1 0 (λ e. omega arith) ∙ get_or-set_same two 2 1 0 (omega (arith, two_long))
-
-  host_feature : get_or (opening_words n) 4 0 ≡ 1
-  host_feature = get_or-set_same three 4 1 0 (omega (arith, three_long))
-
-  guest_feature : get_or (opening_words n) (n + 5 + 4) 0 ≡ 1
-  guest_feature = get_or-set_other three 4 (n + 5 + 4) 1 0 (λ e. omega arith) ∙ (get_or-set_other two 2 (n + 5 + 4) 1 0 (λ e. omega arith) ∙ get_or-set_same one (n + 5 + 4) 1 0 (omega (arith, one_long)))
-
-  guest_mask : get_or (opening_words n) (n + 5 + 2) 0 ≡ 1
-  guest_mask =
-      get_or-set_other three 4 (n + 5 + 2) 1 0 (λ e. omega arith) ∙ (get_or-set_other two 2 (n + 5 + 2) 1 0 (λ e. omega arith)
-      ∙ (get_or-set_other one (n + 5 + 4) (n + 5 + 2) 1 0 (λ e. omega arith) ∙ get_or-set_same zeros (n + 5 + 2) 1 0 (omega (arith, length-replicate {A = ℕ} (words_of n) 0))))
-
-  zero_at : (i : ℕ) → i < words_of n → i ≢ 2 → i ≢ 4 → i ≢ n + 5 + 2 → i ≢ n + 5 + 4 → get_or (opening_words n) i 0 ≡ 0
-  zero_at i = still n i
-
-  down : (x : Side) → get_or (opening_words n) (signal_of n x) 0 < 2
-  down Guest = let z = zero_at (n + n + 10) (omega arith) (λ e. omega arith) (λ e. omega arith) (λ e. omega arith) (λ e. omega arith) in omega (arith, z)
-  down Host = let z = zero_at (n + n + 11) (omega arith) (λ e. omega arith) (λ e. omega arith) (λ e. omega arith) (λ e. omega arith) in omega (arith, z)
-
   new_words : (x : Side) → OwnWords n (opening_words n) x (machine_new x n)
-  new_words Guest = record { mask = guest_mask; pending = zero_at 3 (omega arith) (λ e. omega arith) (λ e. omega arith) (λ e. omega arith) (λ e. omega arith); feature = host_feature; signal = down Guest }
-  new_words Host = record { mask = host_mask; pending = zero_at (n + 5 + 3) (omega arith) (λ e. omega arith) (λ e. omega arith) (λ e. omega arith) (λ e. omega arith); feature = guest_feature; signal = down Host }
+  new_words Guest = search (rules, still n, get_or-set_other, get_or-set_same, length-replicate)
+  new_words Host = search (rules, still n, get_or-set_other, get_or-set_same, length-replicate)
 
   new_invariant : 512 ≤ n → n ≤ 16777216 → ChannelInvariant n (opening_words n) (new_end n)
   new_invariant a b = record {
@@ -100,31 +58,22 @@ module _ (n : ℕ) where
 
   -- no signal is up
   new_signals : (c : ℕ) (x : Side) → SignalsRaised n (opening_words n) x (new_told n c x) (new_told n c (peer_of x))
-  new_signals c Guest = let z = zero_at (n + n + 10) (omega arith) (λ e. omega arith) (λ e. omega arith) (λ e. omega arith) (λ e. omega arith) in omega (arith, z)
-  new_signals c Host = let z = zero_at (n + n + 11) (omega arith) (λ e. omega arith) (λ e. omega arith) (λ e. omega arith) (λ e. omega arith) in omega (arith, z)
+  new_signals c Guest = search (rules, still n)
+  new_signals c Host = search (rules, still n)
 
   -- the words of the rings, and those of the pages behind them
-  opening_long : length (opening_words n) ≡ words_of n
-  opening_long = length-set three 4 1 ∙ three_long
-
   new_rings : (c : ℕ) → ring_words n (opening_with n c) ≡ opening_words n
-  new_rings c = ap (λ (k : ℕ). take k (opening_with n c)) (sym opening_long) ∙ take-append_seam (opening_words n) (replicate (512 * c) 0)
+  new_rings c = ap (λ (k : ℕ). take k (opening_with n c)) (sym (opening_length n)) ∙ take-append_seam (opening_words n) (replicate (512 * c) 0)
 
-  zeros_in : (k i : ℕ) → get_or (replicate {A = ℕ} k 0) i 0 ≡ 0
-  zeros_in zero i = refl
-  zeros_in (suc k) zero = refl
-  zeros_in (suc k) (suc i) = zeros_in k i
+  zero_word : (c i : ℕ) → words_of n ≤ i → get_or (opening_with n c) i 0 ≡ 0
+  zero_word c i far = get_or-append_right (opening_words n) (replicate (512 * c) 0) (words_of n) i 0 (opening_length n) far ∙ zeros_at (512 * c) _
 
   new_word : (c q w : ℕ) → word_in (words_of n) (opening_with n c) q w ≡ 0
-  new_word c q w = either_zero (ltb w 512) _ (get_or-append_right (opening_words n) (replicate (512 * c) 0) (words_of n) (words_of n + (512 * q + w)) 0 opening_long (omega arith) ∙ zeros_in (512 * c) _)
-    where
-      either_zero : (b : Bool) (v : ℕ) → v ≡ 0 → cond b v 0 ≡ 0
-      either_zero true v e = e
-      either_zero false v e = refl
+  new_word c q w = search (rules, zero_word c (words_of n + (512 * q + w)) (omega arith))
 
   new_rule : (c : ℕ) → 512 ≤ n → n ≤ 16777216 → WholeRule n c (opening_with n c) (new_paged n c)
   new_rule c a b =
-      new_keeps n c (opening_with n c) a b (let l = length-append (opening_words n) (replicate (512 * c) 0) in let m = length-replicate {A = ℕ} (512 * c) 0 in let o = opening_long in omega (arith, l, m, o))
+      new_keeps n c (opening_with n c) a b (let l = length-append (opening_words n) (replicate (512 * c) 0) in let m = length-replicate {A = ℕ} (512 * c) 0 in let o = opening_length n in omega (arith, l, m, o))
       (subst (λ (z : List ℕ). ChannelInvariant n z (new_end n)) (sym (new_rings c)) (new_invariant a b)) (new_word c)
 
 pub opens : (n c : ℕ) (words : List ℕ) → 512 ≤ n → n ≤ 16777216 → words ≡ opening_with n c → Holds n c (opening words [] (Both (new_told n c Guest) (new_told n c Host)))
@@ -249,11 +198,10 @@ look_holds : (n c id : ℕ) (s : State (Unit {0}) View) (u : Told) → Holds n c
     → Holds n c record { words = s.words; homes = s.homes; views = set s.views id (One (record u { steps = u.steps + 1 })) }
 look_holds n c id s u it at =
     let x : Side = u.state.machine.side in
-    let knows : (u ≡ it.ends x) × (id ≡ it.seat x) = it.seats id (One u) at in
     let more : Told = record u { steps = u.steps + 1 } in
-    let k : Known n c x s.words u (it.ends (peer_of x)) = subst (λ (w : Told). Known n c x s.words w (it.ends (peer_of x))) (sym knows.0) (known_of n c s.words it.ends it.channel it.counts it.loads it.signals x) in
+    let k : Known n c x s.words u (it.ends (peer_of x)) = known_of n c id s u it at in
     let new : Known n c x s.words more (it.ends (peer_of x)) = record { rings = record { sided = k.rings.sided; mine = k.rings.mine; peers = k.rings.peers }; pages = k.pages; count = k.count; loads = k.loads } in
-    holds_with n c id s x more s.words it knows.1 new
+    holds_with n c id s x more s.words it (it.seats id (One u) at).1 new
 
 looks_at : (n c slots id i : ℕ) (v : View) (held : List (ℕ × Unit {0})) → Allows (Holds n c) slots id (v, held) i (λ k. k) (λ f now. (now ≡ (looked v, held)) × IsSettled v)
 looks_at n c slots id i (One u) held s it deep at small = (

@@ -14,12 +14,13 @@ use Rattle.ring_pair_laws.proofs.Pairing.{begins_sound}
 use Rattle.ring_seat.specs.Rule.{OwnPart, ChannelInvariant, with_end}
 use Rattle.ring_seat.specs.Waking.{WakePending}
 use Rattle.ring_seat.proofs.Waits.{WaitsBy, step_waits}
-use Rattle.ring_seat.proofs.PointLaws.{fed_point, begins_point}
+use Rattle.ring_machine.proofs.Sound.{no_true}
+use Rattle.ring_seat.proofs.PointLaws.{fed_point, begins_opens}
 use Rattle.ring_seat.proofs.WordLaws.{own_words, peers_words, begins_words}
 use Rattle.ring_seat.proofs.WakeTables.{fed_given}
 use Rattle.ring_seat.proofs.OwnWakes.{Waking, KnownBy, own_waking}
 use Rattle.ring_seat.proofs.PeerWakes.{peers_waking}
-use Rattle.ring_seat.proofs.Wakes.{turned, known, to_waking, of_waking, begins_opens, begins_given, opens_own, opens_peers}
+use Rattle.ring_seat.proofs.Wakes.{turned, known, to_waking, of_waking, opens_own, opens_peers}
 
 -- an end e of this side, and its peer p
 pub record Sided (n : ℕ) (x : Side) (ws : List ℕ) (e p : EndState) : Type 0 where
@@ -34,7 +35,7 @@ sided_of n ws ends i Guest = record { both = both_of n Guest ws (ends Guest) (en
 sided_of n ws ends i Host = record { both = both_of n Host ws (ends Guest) (ends Host) i.channel; mine = i.own Host; peers = i.own Guest; wakes = i.wakes Host; peers_wakes = i.wakes Guest }
 
 -- what holds of both sides
-each_side : (P : Side → EndState → Type 0) (x : Side) (e : EndState) (ends : Side → EndState) → P x e → P (peer_of x) (ends (peer_of x)) → (y : Side) → P y (with_end x e ends y)
+pub each_side : (P : Side → EndState → Type 0) (x : Side) (e : EndState) (ends : Side → EndState) → P x e → P (peer_of x) (ends (peer_of x)) → (y : Side) → P y (with_end x e ends y)
 each_side P Guest e ends a b Guest = a
 each_side P Guest e ends a b Host = b
 each_side P Host e ends a b Guest = b
@@ -65,7 +66,7 @@ stepped_own ws e p s op h =
     (to_waking e.machine.cells (peer_of e.machine.side) ws p e (turned e.machine.cells e.machine.side ws e p s.both) s.peers_wakes) k in
     record {
       both = g.both;
-      mine = record { goes = g.goes; point = fed_point e.machine v sound s.mine.point; committed = fed_given e.machine v s.mine.committed; words = own_words e.machine.cells e.machine.side ws ws' e.machine v w s.mine.words };
+      mine = record { goes = g.goes; point = fed_point e.machine s.mine.point sound v; committed = fed_given e.machine v s.mine.committed; words = own_words e.machine.cells e.machine.side ws ws' e.machine v w s.mine.words };
       peers = record { goes = s.peers.goes; point = s.peers.point; committed = s.peers.committed; words = peers_words e.machine.cells e.machine.side ws ws' e.machine.stage e.machine.want p.machine w s.peers.words };
       wakes = of_waking e.machine.cells e.machine.side ws' (after e v) p g.both (subst (λ (c : ℕ). Waking c (fed e.machine v) p.machine) (sym w.signal) own);
       peers_wakes = of_waking e.machine.cells (peer_of e.machine.side) ws' p (after e v) (turned e.machine.cells e.machine.side ws' (after e v) p g.both) (subst (λ (c : ℕ). Waking c p.machine (fed e.machine v)) (sym w.raised) peers);
@@ -81,12 +82,13 @@ stepped n x ws e p s =
 pub begun : (n : ℕ) (x : Side) (ws : List ℕ) (e p : EndState) → Sided n x ws e p → (m : EndMachine) (q : List ℕ) → Begins e m q → Sided n x ws (entered e m q) p
 begun n x ws e p s m q b =
     let g : Goes n x q ws (entered e m q) p = call_began n x ws e p s.both m q b (begins_sound e m q s.both.fits.sound b) in
+    let o = begins_opens e m q s.mine.point b in
     record {
       both = g.both;
-      mine = record { goes = g.goes; point = begins_point e m q s.mine.point b; committed = begins_given e m q b; words = begins_words n x ws e m q s.mine.point s.mine.words b };
+      mine = record { goes = g.goes; point = o.point; committed = λ h. absurd (no_true o.ungiven h); words = begins_words n x ws e m q s.mine.words o };
       peers = s.peers;
-      wakes = of_waking n x ws (entered e m q) p g.both (opens_own e.machine m (begins_opens e m q b) _ p.machine (to_waking n x ws e p s.both s.wakes));
-      peers_wakes = of_waking n (peer_of x) ws p (entered e m q) (turned n x ws (entered e m q) p g.both) (opens_peers e.machine m (begins_opens e m q b) _ p.machine (to_waking n (peer_of x) ws p e (turned n x ws e p s.both) s.peers_wakes));
+      wakes = of_waking n x ws (entered e m q) p g.both (opens_own e m q o _ p.machine (to_waking n x ws e p s.both s.wakes));
+      peers_wakes = of_waking n (peer_of x) ws p (entered e m q) (turned n x ws (entered e m q) p g.both) (opens_peers e m q o _ p.machine (to_waking n (peer_of x) ws p e (turned n x ws e p s.both) s.peers_wakes));
     }
 
 -- a call that begins, or goes on

@@ -1,5 +1,5 @@
 -- What each step of an end makes of the words that say who waits: masks, wanted rooms, feature bits and signals.
-use Rattle.std.proofs.Common.{◌≡◌, ◌≢◌, ℕ, ◌+◌, ◌*◌, ◌/◌, ◌<◌, List, length, get_or, set, Some, refl, subst, arith}
+use Rattle.std.proofs.Common.{◌≡◌, ◌≢◌, ℕ, ◌+◌, ◌<◌, List, length, get_or, set, Some, refl, subst, arith}
 use Rattle.std.proofs.lemmas.List.{get_or-set_same, get_or-set_other}
 use Rattle.io_edge.specs.declared.side.Side.{Side}
 use Rattle.io_edge.specs.declared.side.Side.TheVariants.{Guest, Host}
@@ -77,17 +77,10 @@ module _ (n : ℕ) (ws : List ℕ) where
   elsewhere Guest i w a = record { mask = stays i (n + 5 + 2) w a.guest_mask; pending = stays i 3 w a.host_pending; signal = stays i (n + n + 10) w a.guest_signal; raised = stays i (n + n + 11) w a.host_signal; peers_mask = stays i 2 w a.host_mask; peers_pending = stays i (n + 5 + 3) w a.guest_pending; feature = stays i 4 w a.host_feature; peers_feature = stays i (n + 5 + 4) w a.guest_feature }
   elsewhere Host i w a = record { mask = stays i 2 w a.host_mask; pending = stays i (n + 5 + 3) w a.guest_pending; signal = stays i (n + n + 11) w a.host_signal; raised = stays i (n + n + 10) w a.guest_signal; peers_mask = stays i (n + 5 + 2) w a.guest_mask; peers_pending = stays i 3 w a.host_pending; feature = stays i (n + 5 + 4) w a.guest_feature; peers_feature = stays i 4 w a.host_feature }
 
-  apart_write : (y : Ring) → Apart n (base_of n y)
-  apart_write ToHost = record { host_mask = λ e. omega arith; host_pending = λ e. omega arith; host_feature = λ e. omega arith; guest_mask = λ e. omega arith; guest_pending = λ e. omega arith; guest_feature = λ e. omega arith; guest_signal = λ e. omega arith; host_signal = λ e. omega arith }
-  apart_write ToGuest = record { host_mask = λ e. omega arith; host_pending = λ e. omega arith; host_feature = λ e. omega arith; guest_mask = λ e. omega arith; guest_pending = λ e. omega arith; guest_feature = λ e. omega arith; guest_signal = λ e. omega arith; host_signal = λ e. omega arith }
-
-  apart_read : (y : Ring) → Apart n (base_of n y + 1)
-  apart_read ToHost = record { host_mask = λ e. omega arith; host_pending = λ e. omega arith; host_feature = λ e. omega arith; guest_mask = λ e. omega arith; guest_pending = λ e. omega arith; guest_feature = λ e. omega arith; guest_signal = λ e. omega arith; host_signal = λ e. omega arith }
-  apart_read ToGuest = record { host_mask = λ e. omega arith; host_pending = λ e. omega arith; host_feature = λ e. omega arith; guest_mask = λ e. omega arith; guest_pending = λ e. omega arith; guest_feature = λ e. omega arith; guest_signal = λ e. omega arith; host_signal = λ e. omega arith }
-
-  apart_cell : (y : Ring) (c : ℕ) → c < n → Apart n (base_of n y + 5 + 8 * c / 8)
-  apart_cell ToHost c h = record { host_mask = λ e. omega arith; host_pending = λ e. omega arith; host_feature = λ e. omega arith; guest_mask = λ e. omega arith; guest_pending = λ e. omega arith; guest_feature = λ e. omega arith; guest_signal = λ e. omega arith; host_signal = λ e. omega arith }
-  apart_cell ToGuest c h = record { host_mask = λ e. omega arith; host_pending = λ e. omega arith; host_feature = λ e. omega arith; guest_mask = λ e. omega arith; guest_pending = λ e. omega arith; guest_feature = λ e. omega arith; guest_signal = λ e. omega arith; host_signal = λ e. omega arith }
+  -- the words of a ring but its mask, its pending and its feature
+  apart_ring : (y : Ring) (i k : ℕ) → i ≡ base_of n y + k → k < n + 5 → k ≢ 2 → k ≢ 3 → k ≢ 4 → Apart n i
+  apart_ring ToHost i k at in_ring a b c = record { host_mask = λ e. a (omega (arith, at, e)); host_pending = λ e. b (omega (arith, at, e)); host_feature = λ e. c (omega (arith, at, e)); guest_mask = λ e. omega (arith, at, e, in_ring); guest_pending = λ e. omega (arith, at, e, in_ring); guest_feature = λ e. omega (arith, at, e, in_ring); guest_signal = λ e. omega (arith, at, e, in_ring); host_signal = λ e. omega (arith, at, e, in_ring) }
+  apart_ring ToGuest i k at in_ring a b c = record { host_mask = λ e. omega (arith, at, e); host_pending = λ e. omega (arith, at, e); host_feature = λ e. omega (arith, at, e); guest_mask = λ e. a (omega (arith, at, e)); guest_pending = λ e. b (omega (arith, at, e)); guest_feature = λ e. c (omega (arith, at, e)); guest_signal = λ e. omega (arith, at, e, in_ring); host_signal = λ e. omega (arith, at, e, in_ring) }
 
   apart_mark : (x : Side) → Apart n (mark_of n x)
   apart_mark Guest = record { host_mask = λ e. omega arith; host_pending = λ e. omega arith; host_feature = λ e. omega arith; guest_mask = λ e. omega arith; guest_pending = λ e. omega arith; guest_feature = λ e. omega arith; guest_signal = λ e. omega arith; host_signal = λ e. omega arith }
@@ -123,10 +116,10 @@ module _ (m : EndMachine) (p ws : List ℕ) (s : IsSound m) (long : length ws �
   waits_at : (st : Stage) (op : Op) → next_at st m p ≡ Some op → After st op
   waits_at Idle op h = absurd (cc)
   waits_at Stopped op h = absurd (cc)
-  waits_at SendCell op h = given SendCell _ op h (elsewhere m.cells ws m.side _ _ (apart_cell m.cells ws (out_of m.side) (ahead m.cells m.write m.done) (ahead_below m.cells m.write m.done s.write (omega (arith, s.done, s.len)))))
-  waits_at SendWrite op h = given SendWrite _ op h (elsewhere m.cells ws m.side _ _ (apart_write m.cells ws (out_of m.side)))
+  waits_at SendCell op h = given SendCell _ op h (elsewhere m.cells ws m.side _ _ (let c = ahead_below m.cells m.write m.done s.write (omega (arith, s.done, s.len)) in apart_ring m.cells ws (out_of m.side) _ (5 + ahead m.cells m.write m.done) (omega arith) (omega (arith, c)) (λ e. omega arith) (λ e. omega arith) (λ e. omega arith)))
+  waits_at SendWrite op h = given SendWrite _ op h (elsewhere m.cells ws m.side _ _ (apart_ring m.cells ws (out_of m.side) _ 0 (omega arith) (omega arith) (λ e. omega arith) (λ e. omega arith) (λ e. omega arith)))
   waits_at SendRaise op h = given SendRaise _ op h (put_raised m.cells ws long m.side 1)
-  waits_at CommitRead op h = given CommitRead _ op h (elsewhere m.cells ws m.side _ _ (apart_read m.cells ws (in_of m.side)))
+  waits_at CommitRead op h = given CommitRead _ op h (elsewhere m.cells ws m.side _ _ (apart_ring m.cells ws (in_of m.side) _ 1 refl (omega arith) (λ e. omega arith) (λ e. omega arith) (λ e. omega arith)))
   waits_at CommitRaise op h = given CommitRaise _ op h (put_raised m.cells ws long m.side 1)
   waits_at ArmPending op h = given ArmPending _ op h (put_pending m.cells ws long m.side m.want)
   waits_at ArmMask op h = given ArmMask _ op h (put_mask m.cells ws long m.side 0)

@@ -1,15 +1,8 @@
-use Rattle.std.proofs.Common.{◌≡◌, Bool, true, false, Some, sym, ap, ◌∙◌}
+use Rattle.std.proofs.Common.{Bool, Some, ap, ◌∙◌}
 use Rattle.ring_core.specs.declared.told.Told.{Told}
 use Rattle.ring_machine.specs.States.{stored}
-use Rattle.ring_machine.proofs.Fitting.{busy_off}
-use Rattle.ring_core.proofs.Performed.{ring_way, ring_goes, ring_tells, ring_next}
+use Rattle.ring_core.proofs.Performed.{ring_tells, ring_next, ring_goes}
 use Rattle.ring_core.proofs.driver.step.Goals as goal
-
-pub perform-v-requires-clause-busy : goal.perform-v-requires-clause-busy
-perform-v-requires-clause-busy g c = ring_way _ _ c.requires.busy
-
-pub perform-v-requires-clause-pages : goal.perform-v-requires-clause-pages
-perform-v-requires-clause-pages g c = λ h. absurd (let z : true ≡ false = sym h ∙ busy_off c.args.core.now.pages c.args.core.now.machine.stage c.args.core.now.fit c.requires.busy in cc)
 
 pub perform-v-requires-clause-goes_on : goal.perform-v-requires-clause-goes_on
 perform-v-requires-clause-goes_on g c = λ u e. ring_goes _ _ _ _ _ c.requires.busy (c.requires.goes_on u e)

@@ -1,11 +1,14 @@
-use Rattle.std.proofs.Common.{◌≡◌, true, refl, sym, ap, ◌∙◌, subst}
+use Rattle.std.proofs.Common.{◌≡◌, true, sym, ap, ◌∙◌, subst}
 use Rattle.ring_machine.specs.declared.machine.Stage.{Stage}
 use Rattle.ring_machine.specs.Steps.{call_at, fed, is_busy_at}
 use Rattle.ring_machine.proofs.Sound.{fed_nearer}
 use Rattle.ring_machine.specs.Loops.{Keeps}
-use Rattle.ring_machine.proofs.Kept.{keeps_more, keeps_none, keeps_step}
-use Rattle.ring_core.proofs.Goings.{can_step, goes_more, goes_none, goes_step, may_more}
+use Rattle.ring_machine.proofs.Kept.{keeps_more, keeps_step}
+use Rattle.ring_core.proofs.Driving.{can_step, goes_more, goes_step, may_more}
 use Rattle.ring_core.proofs.driver.steps_at.Goals as goal
+
+pub returns-clause-may : goal.returns-clause-may
+returns-clause-may g c = may_more c.requires.may c.loop-at.invariant.goes
 
 pub step-requires : goal.step-requires
 step-requires g c =
@@ -28,6 +31,3 @@ loop-at-preserved g c =
       keeps = keeps_more _ _ m _ i.keeps (rw c.step.ensures.machine (subst (λ (st : Stage). Keeps (call_at st) m (fed m c.step.result)) same (keeps_step m c.step.result m.stage busy)));
       pages = c.step.ensures.pages ∙ i.pages;
     }
-
-pub loop-at-init : goal.loop-at-init
-loop-at-init g c = record { goes = goes_none g.met.S.Seatlike.same_refl; keeps = keeps_none _ _; pages = refl }

@@ -1,10 +1,7 @@
-use Rattle.std.proofs.Common.{refl, sym, ◌∙◌}
+use Rattle.std.proofs.Common.{sym, ◌∙◌}
 use Rattle.ring_machine.proofs.Sound.{fed_nearer}
-use Rattle.ring_core.proofs.Goings.{can_step, goes_more, goes_none, goes_step, may_more}
+use Rattle.ring_core.proofs.Driving.{can_step, goes_more, goes_step, may_more}
 use Rattle.ring_core.proofs.driver.steps_on.Goals as goal
-
-pub loop-seat-init : goal.loop-seat-init
-loop-seat-init g c = record { goes = goes_none g.met.S.Seatlike.same_refl; pages = refl }
 
 pub step_apart-requires : goal.step_apart-requires
 step_apart-requires g c =

@@ -3,30 +3,12 @@ use Rattle.page_kept.specs.declared.page_call.PageCall.TheVariants.{LoadWords}
 use Rattle.page_table.specs.Table.{Table}
 use Rattle.ring_machine.specs.declared.machine.EndMachine.{EndMachine}
 use Rattle.ring_machine.specs.declared.page_core.PageCore.{PageCore}
-use Rattle.ring_machine.specs.PageCalls.{ContinuesPage, is_paging, page_op, pages_fed}
-use Rattle.ring_machine.specs.Steps.{is_busy_at}
+use Rattle.ring_machine.specs.PageCalls.{ContinuesPage, page_op, pages_fed}
 use Rattle.ring_core.specs.Pages.{resting_in}
 use Rattle.ring_core.specs.Told.{answer_of, memory_after, told_page}
-use Rattle.ring_core.proofs.Loading.{LoadedSome, core_at, core_first, core_more, load_pages, loaded_off, loads_at, paging_asks, some_all, some_first, some_more}
+use Rattle.ring_core.proofs.Loading.{LoadedSome, core_at, core_more, loaded_off, loads_at, paging_asks, some_all, some_more, core_first, some_first}
 use Rattle.ring_core.proofs.Paging.{due_inside}
 use Rattle.ring_core.proofs.page_words.load_words.Goals as goal
-
-pub loop-word-init : goal.loop-word-init
-loop-word-init g c =
-    let core = c.args.core.now in
-    let table = c.args.table.now in
-    let rests = c.requires.rests in
-    let inside = due_inside core.pages core.machine.stage c.args.page c.args.words core.fit c.requires.due in
-    record {
-      loaded = λ sent got past at. some_first core.machine core.pages sent got past table c.args.page c.args.words (g.S.Seatlike.told c.args.seat.now) (g.S.Seatlike.tale c.args.seat.now) inside.1 c.requires.due at;
-      machine = c.begin_lent_load.ensures.machine;
-      pages = c.begin_lent_load.ensures.pages ∙ core_first core.pages rests.sent rests.got table c.args.page c.args.words inside.1 c.requires.due;
-      same = g.met.S.Seatlike.same_refl _;
-      cells = rests.fits;
-      core = refl;
-      owners = refl;
-      counts = refl;
-    }
 
 pub loop-word-preserved : goal.loop-word-preserved
 loop-word-preserved g c =
@@ -57,30 +39,6 @@ loop-word-preserved g c =
       counts = ap (λ (t : Table). t.counts) c.set_word.ensures ∙ l.invariant.counts;
     }
 
-pub page_step-v-requires-clause-rests : goal.page_step-v-requires-clause-rests
-page_step-v-requires-clause-rests g c = ap (λ (m : EndMachine). is_busy_at m.stage) c.loop-word.invariant.machine ∙ ap is_busy_at c.requires.rests.idle
-
-pub page_step-v-requires-clause-call : goal.page_step-v-requires-clause-call
-page_step-v-requires-clause-call g c =
-    let rests = c.requires.rests in
-    let lt : c.loop-word.word < c.args.words = omega (arith, c.loop-word-test.true, c.loop-word.auto.word-end) in
-    ap (λ (k : PageCore). is_paging k.call) c.loop-word.invariant.pages ∙ load_pages c.args.core.now.pages rests.sent rests.got c.args.table.now c.args.page c.args.words c.loop-word.word lt
-
-pub page_step-v-requires-clause-fits : goal.page_step-v-requires-clause-fits
-page_step-v-requires-clause-fits g c = c.loop-word.invariant.cells ∙ sym (ap (λ (m : EndMachine). m.cells) c.loop-word.invariant.machine)
-
-pub page_step-v-requires-clause-pages : goal.page_step-v-requires-clause-pages
-page_step-v-requires-clause-pages g c = g.met.S.Seatlike.same_pages _ _ c.loop-word.invariant.same ∙ (c.requires.rests.pages ∙ sym (ap (λ (k : PageCore). k.count) c.loop-word.invariant.pages))
-
-pub page_step-v-requires-clause-goes_on : goal.page_step-v-requires-clause-goes_on
-page_step-v-requires-clause-goes_on g c = λ u e.
-    let core = c.args.core.now in
-    let rests = c.requires.rests in
-    let l = c.loop-word in
-    subst (λ (k : PageCore). ContinuesPage u.state k.call) (sym l.invariant.pages)
-    (paging_asks (resting_in core.machine core.pages rests.sent rests.got rests.past c.args.table.now) (LoadWords c.args.page c.args.words 0) (loads_at c.args.page c.args.words l.word) (g.S.Seatlike.told c.args.seat.now)
-    (g.S.Seatlike.told l.seat) (g.S.Seatlike.tale c.args.seat.now) (g.S.Seatlike.tale l.seat) l.word (l.invariant.loaded rests.sent rests.got rests.past rests.stands).paging (inr (rests.idle, rests.off, c.requires.due)) u e)
-
 pub returns-clause-loads : goal.returns-clause-loads
 returns-clause-loads g c =
     let core = c.args.core.now in
@@ -102,3 +60,29 @@ returns-clause-loads g c =
       clear = (ap (λ (k : PageCore). k.due) end, ap (λ (k : PageCore). k.call) end ∙ loaded_off q n, ap (λ (k : PageCore). k.count) end);
       table = (l.invariant.owners, l.invariant.counts);
     }
+
+pub loop-word-init : goal.loop-word-init
+loop-word-init g c =
+    let core = c.args.core.now in
+    let table = c.args.table.now in
+    let rests = c.requires.rests in
+    let inside = due_inside core.pages core.machine.stage c.args.page c.args.words core.fit c.requires.due in
+    record {
+      loaded = λ sent got past at. some_first core.machine core.pages sent got past table c.args.page c.args.words (g.S.Seatlike.told c.args.seat.now) (g.S.Seatlike.tale c.args.seat.now) inside.1 c.requires.due at;
+      machine = c.begin_lent_load.ensures.machine;
+      pages = c.begin_lent_load.ensures.pages ∙ core_first core.pages rests.sent rests.got table c.args.page c.args.words inside.1 c.requires.due;
+      same = g.met.S.Seatlike.same_refl _;
+      cells = rests.fits;
+      core = refl;
+      owners = refl;
+      counts = refl;
+    }
+
+pub page_step-v-requires-clause-goes_on : goal.page_step-v-requires-clause-goes_on
+page_step-v-requires-clause-goes_on g c = λ u e.
+    let core = c.args.core.now in
+    let rests = c.requires.rests in
+    let l = c.loop-word in
+    subst (λ (k : PageCore). ContinuesPage u.state k.call) (sym l.invariant.pages)
+    (paging_asks (resting_in core.machine core.pages rests.sent rests.got rests.past c.args.table.now) (LoadWords c.args.page c.args.words 0) (loads_at c.args.page c.args.words l.word) (g.S.Seatlike.told c.args.seat.now)
+    (g.S.Seatlike.told l.seat) (g.S.Seatlike.tale c.args.seat.now) (g.S.Seatlike.tale l.seat) l.word (l.invariant.loaded rests.sent rests.got rests.past rests.stands).paging (inr (rests.idle, rests.off, c.requires.due)) u e)

@@ -5,7 +5,7 @@ use Rattle.ring_core.specs.Laying.{RanStores}
 use Rattle.ring_core.specs.Pages.{Paged, resting_in}
 use Rattle.ring_core.specs.PageWords.{TellsAs}
 use Rattle.ring_machine.specs.declared.end_core.EndCore.{EndCore}
-use Rattle.ring_core.proofs.Stores.{stored_in}
+use Rattle.ring_core.proofs.Laying.{stored_in}
 use Rattle.ring_core.proofs.page_words.store_words.Given as goal
 
 -- fast : the copy of the machine; the first j words are stored

@@ -1,8 +1,5 @@
-use Rattle.ring_loan_rule.proofs.Example.{request_names, may_lend}
+use Rattle.std.proofs.Common.{arith, refl}
 use Rattle.ring_loan_rule.proofs.laws.first_request_lends.Goals as goal
 
-pub returns-clause-lends : goal.returns-clause-lends
-returns-clause-lends c = request_names
-
 pub returns-clause-may : goal.returns-clause-may
-returns-clause-may c = may_lend
+returns-clause-may c = record { clear = refl; has = λ a e h. cc (h); settled = λ a e h. omega arith; answers = λ e. cc (e) }

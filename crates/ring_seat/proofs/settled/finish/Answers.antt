@@ -1,11 +1,14 @@
-use Rattle.std.proofs.Common.{List, ℕ, refl, sym, ap, ◌∙◌, subst}
+use Rattle.std.proofs.Common.{rules, Bool, ◌≡◌, List, ℕ, refl, sym, ap, ◌∙◌, subst}
 use Rattle.channel_trace.specs.Runs.{IsFront}
-use Rattle.page_kept.specs.Items.{packets}
 use Rattle.page_kept.specs.declared.item.Item.{Item}
 use Rattle.ring_machine.specs.declared.state.EndState.{EndState}
 use Rattle.ring_seat.specs.Seats.{told_in}
 use Rattle.ring_seat.specs.Settling.{AreSettled, PagesSettled}
+use Rattle.ring_seat.specs.Whole.{ItemsGot}
 use Rattle.ring_seat.proofs.settled.finish.Goals as goal
+
+items_are : (d : Bool) (got got' sent sent' : List (List ℕ)) (gi gi' si si' : List Item) → got' ≡ got → gi' ≡ gi → sent' ≡ sent → si' ≡ si → ItemsGot d got gi sent si → ItemsGot d got' gi' sent' si'
+items_are d got got' sent sent' gi gi' si si' a b e f = subst (λ (z : List (List ℕ) × List Item × List (List ℕ) × List Item). ItemsGot d z.0 z.1 z.2 z.3) (λ j. (sym a j, sym b j, sym e j, sym f j))
 
 pub settle-requires-clause-guest : goal.settle-requires-clause-guest
 settle-requires-clause-guest c = ap (λ (e : EndState). e.machine.side) (c.into_parts-guest.ensures.told (told_in c.into_parts-guest.result.0.seat.me.0) refl) ∙ c.requires.one_channel.guest
@@ -13,83 +16,34 @@ settle-requires-clause-guest c = ap (λ (e : EndState). e.machine.side) (c.into_
 pub settle-requires-clause-host : goal.settle-requires-clause-host
 settle-requires-clause-host c = ap (λ (e : EndState). e.machine.side) (c.into_parts-host.ensures.told (told_in c.into_parts-host.result.0.seat.me.0) refl) ∙ c.requires.one_channel.host
 
-pub returns-clause-fronts : goal.returns-clause-fronts
-returns-clause-fronts c =
-    let g = c.into_parts-guest.ensures.told (told_in c.into_parts-guest.result.0.seat.me.0) refl in
-    let h = c.into_parts-host.ensures.told (told_in c.into_parts-host.result.0.seat.me.0) refl in
-    let s = subst (λ (z : EndState × EndState). AreSettled z.0 z.1) (λ j. (g j, h j)) c.settle.ensures.ends in
-    (subst (λ (z : List (List ℕ) × List (List ℕ)). IsFront z.0 z.1) (λ j. (sym c.into_parts-guest.ensures.got j, sym c.into_parts-host.ensures.sent j)) s.guest_front, subst (λ (z : List (List ℕ) × List (List ℕ)). IsFront z.0 z.1) (λ j. (sym c.into_parts-host.ensures.got j, sym c.into_parts-guest.ensures.sent j)) s.host_front)
-
-pub returns-clause-guest_drained : goal.returns-clause-guest_drained
-returns-clause-guest_drained c d =
-    let g = c.into_parts-guest.ensures.told (told_in c.into_parts-guest.result.0.seat.me.0) refl in
-    let h = c.into_parts-host.ensures.told (told_in c.into_parts-host.result.0.seat.me.0) refl in
-    let s = subst (λ (z : EndState × EndState). AreSettled z.0 z.1) (λ j. (g j, h j)) c.settle.ensures.ends in
-    c.into_parts-guest.ensures.got ∙ (s.guest_drained d ∙ sym c.into_parts-host.ensures.sent)
-
-pub returns-clause-host_drained : goal.returns-clause-host_drained
-returns-clause-host_drained c d =
-    let g = c.into_parts-guest.ensures.told (told_in c.into_parts-guest.result.0.seat.me.0) refl in
-    let h = c.into_parts-host.ensures.told (told_in c.into_parts-host.result.0.seat.me.0) refl in
-    let s = subst (λ (z : EndState × EndState). AreSettled z.0 z.1) (λ j. (g j, h j)) c.settle.ensures.ends in
-    c.into_parts-host.ensures.got ∙ (s.host_drained d ∙ sym c.into_parts-guest.ensures.sent)
-
-pub returns-clause-run : goal.returns-clause-run
-returns-clause-run c =
-    let g = c.into_parts-guest.ensures.told (told_in c.into_parts-guest.result.0.seat.me.0) refl in
-    let h = c.into_parts-host.ensures.told (told_in c.into_parts-host.result.0.seat.me.0) refl in
-    let s = subst (λ (z : EndState × EndState). AreSettled z.0 z.1) (λ j. (g j, h j)) c.settle.ensures.ends in
-    s.run
-
-pub returns-clause-guest_past : goal.returns-clause-guest_past
-returns-clause-guest_past c =
-    let g = c.into_parts-guest.ensures.told (told_in c.into_parts-guest.result.0.seat.me.0) refl in
-    let h = c.into_parts-host.ensures.told (told_in c.into_parts-host.result.0.seat.me.0) refl in
-    let s = subst (λ (z : EndState × EndState). AreSettled z.0 z.1) (λ j. (g j, h j)) c.settle.ensures.ends in
-    (c.into_parts-guest.ensures.sent ∙ sym s.guest_past.0, c.into_parts-guest.ensures.got ∙ sym s.guest_past.1)
-
-pub returns-clause-host_past : goal.returns-clause-host_past
-returns-clause-host_past c =
-    let g = c.into_parts-guest.ensures.told (told_in c.into_parts-guest.result.0.seat.me.0) refl in
-    let h = c.into_parts-host.ensures.told (told_in c.into_parts-host.result.0.seat.me.0) refl in
-    let s = subst (λ (z : EndState × EndState). AreSettled z.0 z.1) (λ j. (g j, h j)) c.settle.ensures.ends in
-    (c.into_parts-host.ensures.sent ∙ sym s.host_past.0, c.into_parts-host.ensures.got ∙ sym s.host_past.1)
-
-pub returns-clause-guest_pages : goal.returns-clause-guest_pages
-returns-clause-guest_pages c some clear =
-    let g = c.into_parts-guest.ensures.told (told_in c.into_parts-guest.result.0.seat.me.0) refl in
-    let h = c.into_parts-host.ensures.told (told_in c.into_parts-host.result.0.seat.me.0) refl in
-    let s = subst (λ (z : EndState × EndState). PagesSettled z.0 z.1) (λ j. (g j, h j)) c.settle.ensures.pages in
+pub returns : goal.returns
+returns c =
     let a = c.into_parts-guest.ensures in
     let b = c.into_parts-host.ensures in
-    let t = s.guest some clear in
+    let g = a.told (told_in c.into_parts-guest.result.0.seat.me.0) refl in
+    let h = b.told (told_in c.into_parts-host.result.0.seat.me.0) refl in
+    let s = subst (λ (z : EndState × EndState). AreSettled z.0 z.1) (λ j. (g j, h j)) c.settle.ensures.ends in
+    let t = subst (λ (z : EndState × EndState). PagesSettled z.0 z.1) (λ j. (g j, h j)) c.settle.ensures.pages in
     record {
-      packets_are = ap packets a.items.1 ∙ (t.packets_are ∙ sym a.got);
-      front = subst (λ (z : List Item × List Item). IsFront z.0 z.1) (λ j. (sym a.items.1 j, sym b.items.0 j)) t.front;
-      sent_are = ap packets b.items.0 ∙ (t.sent_are ∙ sym b.sent);
-      drained = λ d. a.items.1 ∙ (t.drained d ∙ sym b.items.0);
+      guest = search rules;
+      host = search rules;
+      fronts = (
+        subst (λ (z : List (List ℕ) × List (List ℕ)). IsFront z.0 z.1) (λ j. (sym a.got j, sym b.sent j)) s.guest_front,
+        subst (λ (z : List (List ℕ) × List (List ℕ)). IsFront z.0 z.1) (λ j. (sym b.got j, sym a.sent j)) s.host_front,
+      );
+      guest_drained = λ d. a.got ∙ (s.guest_drained d ∙ sym b.sent);
+      host_drained = λ d. b.got ∙ (s.host_drained d ∙ sym a.sent);
+      run = s.run;
+      signals = search rules;
+      guest_items = search rules;
+      host_items = search rules;
+      item_fronts = (
+        λ some. subst (λ (z : List Item × List Item). IsFront z.0 z.1) (λ j. (sym a.items.1 j, sym b.items.0 j)) (t.guest_front some),
+        λ some. subst (λ (z : List Item × List Item). IsFront z.0 z.1) (λ j. (sym b.items.1 j, sym a.items.0 j)) (t.host_front some),
+      );
+      guest_pages = λ some clear. items_are _ _ _ _ _ _ _ _ _ a.got a.items.1 b.sent b.items.0 (t.guest some clear);
+      host_pages = λ some clear. items_are _ _ _ _ _ _ _ _ _ b.got b.items.1 a.sent a.items.0 (t.host some clear);
+      guest_past = (a.sent ∙ sym s.guest_past.0, a.got ∙ sym s.guest_past.1);
+      host_past = (b.sent ∙ sym s.host_past.0, b.got ∙ sym s.host_past.1);
+      pasts = search rules;
     }
-
-pub returns-clause-host_pages : goal.returns-clause-host_pages
-returns-clause-host_pages c some clear =
-    let g = c.into_parts-guest.ensures.told (told_in c.into_parts-guest.result.0.seat.me.0) refl in
-    let h = c.into_parts-host.ensures.told (told_in c.into_parts-host.result.0.seat.me.0) refl in
-    let s = subst (λ (z : EndState × EndState). PagesSettled z.0 z.1) (λ j. (g j, h j)) c.settle.ensures.pages in
-    let a = c.into_parts-host.ensures in
-    let b = c.into_parts-guest.ensures in
-    let t = s.host some clear in
-    record {
-      packets_are = ap packets a.items.1 ∙ (t.packets_are ∙ sym a.got);
-      front = subst (λ (z : List Item × List Item). IsFront z.0 z.1) (λ j. (sym a.items.1 j, sym b.items.0 j)) t.front;
-      sent_are = ap packets b.items.0 ∙ (t.sent_are ∙ sym b.sent);
-      drained = λ d. a.items.1 ∙ (t.drained d ∙ sym b.items.0);
-    }
-
-pub returns-clause-item_fronts : goal.returns-clause-item_fronts
-returns-clause-item_fronts c =
-    let g = c.into_parts-guest.ensures.told (told_in c.into_parts-guest.result.0.seat.me.0) refl in
-    let h = c.into_parts-host.ensures.told (told_in c.into_parts-host.result.0.seat.me.0) refl in
-    let s = subst (λ (z : EndState × EndState). PagesSettled z.0 z.1) (λ j. (g j, h j)) c.settle.ensures.pages in
-    let a = c.into_parts-guest.ensures in
-    let b = c.into_parts-host.ensures in
-    (λ some. subst (λ (z : List Item × List Item). IsFront z.0 z.1) (λ j. (sym a.items.1 j, sym b.items.0 j)) (s.guest_front some), λ some. subst (λ (z : List Item × List Item). IsFront z.0 z.1) (λ j. (sym b.items.1 j, sym a.items.0 j)) (s.host_front some))

@@ -1,41 +1,35 @@
-use Rattle.std.proofs.Common.{◌∙◌, Some, sym, ap}
+use Rattle.std.proofs.Common.{◌∙◌, Some, ap}
 use Rattle.ring_machine.specs.declared.place.Op.{Op}
 use Rattle.ring_machine.specs.declared.place.Op.TheVariants.{Load, Store, Raise, TakeSignal, StoreMark}
-use Rattle.ring_seat.specs.Seats.{told_in}
-use Rattle.ring_seat.proofs.Allowed.{calls, went}
+use Rattle.ring_seat.proofs.Allowed.{calls}
 use Rattle.ring_seat.proofs.table_seat.perform_as.Goals as goal
 
 pub load-requires : goal.load-requires
 load-requires g c =
-    let step = c.in-Some-Load.is ∙ ap (λ (o : Op). Some o) c.in-Some-Load.field-0-is in
-    let named = sym c.next.ensures.whole ∙ step in
-    let go = went _ (told_in c.args.seat.now.me.0) _ c.args.core.now.machine c.args.packet.now _ c.args.core.now.fit c.requires.busy c.requires.pages c.requires.goes_on (λ b. sym (c.next.ensures.rings b) ∙ step) named in
-    calls _ _ _ _ _ _ _ _ (Load c.in-Some-Load.place) c.place_index.result c.requires.seated c.requires.sized c.requires.view c.requires.base c.args.core.now.sound go named c.place_index.ensures
+    let r = c.requires in
+    let k = c.args.core.now in
+    calls _ _ _ _ _ _ _ _ _ _ _ _ (Load c.in-Some-Load.place) _ r.seated r.sized r.view r.base k.sound k.fit r.busy r.pages r.goes_on c.next.ensures.rings c.next.ensures.whole (c.in-Some-Load.is ∙ ap (λ (o : Op). Some o) c.in-Some-Load.field-0-is) c.place_index.ensures
 
 pub store-requires : goal.store-requires
 store-requires g c =
-    let step = c.in-Some-Store.is ∙ ap (λ (o : Op). Some o) c.in-Some-Store.field-0-is in
-    let named = sym c.next.ensures.whole ∙ step in
-    let go = went _ (told_in c.args.seat.now.me.0) _ c.args.core.now.machine c.args.packet.now _ c.args.core.now.fit c.requires.busy c.requires.pages c.requires.goes_on (λ b. sym (c.next.ensures.rings b) ∙ step) named in
-    calls _ _ _ _ _ _ _ _ (Store c.in-Some-Store.place c.in-Some-Store.v) c.place_index-in-Some-Store.result c.requires.seated c.requires.sized c.requires.view c.requires.base c.args.core.now.sound go named c.place_index-in-Some-Store.ensures
+    let r = c.requires in
+    let k = c.args.core.now in
+    calls _ _ _ _ _ _ _ _ _ _ _ _ (Store c.in-Some-Store.place c.in-Some-Store.v) _ r.seated r.sized r.view r.base k.sound k.fit r.busy r.pages r.goes_on c.next.ensures.rings c.next.ensures.whole (c.in-Some-Store.is ∙ ap (λ (o : Op). Some o) c.in-Some-Store.field-0-is) c.place_index-in-Some-Store.ensures
 
 pub store-requires-in-Some-Raise : goal.store-requires-in-Some-Raise
 store-requires-in-Some-Raise g c =
-    let step = c.in-Some-Raise.is ∙ ap (λ (o : Op). Some o) c.in-Some-Raise.field-0-is in
-    let named = sym c.next.ensures.whole ∙ step in
-    let go = went _ (told_in c.args.seat.now.me.0) _ c.args.core.now.machine c.args.packet.now _ c.args.core.now.fit c.requires.busy c.requires.pages c.requires.goes_on (λ b. sym (c.next.ensures.rings b) ∙ step) named in
-    calls _ _ _ _ _ _ _ _ (Raise c.in-Some-Raise.side) c.signal_index.result c.requires.seated c.requires.sized c.requires.view c.requires.base c.args.core.now.sound go named c.signal_index.ensures
+    let r = c.requires in
+    let k = c.args.core.now in
+    calls _ _ _ _ _ _ _ _ _ _ _ _ (Raise c.in-Some-Raise.side) _ r.seated r.sized r.view r.base k.sound k.fit r.busy r.pages r.goes_on c.next.ensures.rings c.next.ensures.whole (c.in-Some-Raise.is ∙ ap (λ (o : Op). Some o) c.in-Some-Raise.field-0-is) c.signal_index.ensures
 
 pub swap-requires : goal.swap-requires
 swap-requires g c =
-    let step = c.in-Some-TakeSignal.is ∙ ap (λ (o : Op). Some o) c.in-Some-TakeSignal.field-0-is in
-    let named = sym c.next.ensures.whole ∙ step in
-    let go = went _ (told_in c.args.seat.now.me.0) _ c.args.core.now.machine c.args.packet.now _ c.args.core.now.fit c.requires.busy c.requires.pages c.requires.goes_on (λ b. sym (c.next.ensures.rings b) ∙ step) named in
-    calls _ _ _ _ _ _ _ _ (TakeSignal c.in-Some-TakeSignal.side) c.signal_index-in-Some-TakeSignal.result c.requires.seated c.requires.sized c.requires.view c.requires.base c.args.core.now.sound go named c.signal_index-in-Some-TakeSignal.ensures
+    let r = c.requires in
+    let k = c.args.core.now in
+    calls _ _ _ _ _ _ _ _ _ _ _ _ (TakeSignal c.in-Some-TakeSignal.side) _ r.seated r.sized r.view r.base k.sound k.fit r.busy r.pages r.goes_on c.next.ensures.rings c.next.ensures.whole (c.in-Some-TakeSignal.is ∙ ap (λ (o : Op). Some o) c.in-Some-TakeSignal.field-0-is) c.signal_index-in-Some-TakeSignal.ensures
 
 pub store-requires-in-Some-StoreMark : goal.store-requires-in-Some-StoreMark
 store-requires-in-Some-StoreMark g c =
-    let step = c.in-Some-StoreMark.is ∙ ap (λ (o : Op). Some o) c.in-Some-StoreMark.field-0-is in
-    let named = sym c.next.ensures.whole ∙ step in
-    let go = went _ (told_in c.args.seat.now.me.0) _ c.args.core.now.machine c.args.packet.now _ c.args.core.now.fit c.requires.busy c.requires.pages c.requires.goes_on (λ b. sym (c.next.ensures.rings b) ∙ step) named in
-    calls _ _ _ _ _ _ _ _ (StoreMark c.in-Some-StoreMark.side) c.mark_index.result c.requires.seated c.requires.sized c.requires.view c.requires.base c.args.core.now.sound go named c.mark_index.ensures
+    let r = c.requires in
+    let k = c.args.core.now in
+    calls _ _ _ _ _ _ _ _ _ _ _ _ (StoreMark c.in-Some-StoreMark.side) _ r.seated r.sized r.view r.base k.sound k.fit r.busy r.pages r.goes_on c.next.ensures.rings c.next.ensures.whole (c.in-Some-StoreMark.is ∙ ap (λ (o : Op). Some o) c.in-Some-StoreMark.field-0-is) c.mark_index.ensures

@@ -30,51 +30,22 @@ returns-in-Some-clause-fault g c =
 
 pub invariant_of-self : goal.invariant_of-self
 invariant_of-self g c =
-    let told = g.S.Seatlike.told in
-    let tale = g.S.Seatlike.tale in
-    let same = g.S.Seatlike.same in
-    let old = c.self.inside.end in
-    let new = c.read_next-answer.new.end in
-    let result = c.read_next-answer.result in
-    let s = c.self.invariant in
-    let can : IsOpen old.state.got = record { unclosed = sym s.ended_is ∙ c.if-self.false; whole = sym s.fault_is ∙ c.in-None.is } in
-    let stands = read_stands told tale same old new result c.args.out.now c.read_next-answer.new.out c.self.inside.shut c.self.inside.ended c.self.inside.fault s can c.read_next-answer.ensures.reads c.read_next-answer.ensures.bare in
-    subst (λ (b : Bool). IsSock new c.self.inside.shut b c.breaks_off-self-inside.result) (sym c.closes-self-inside.ensures)
-    (subst (λ (o : Option SockFault). IsSock new c.self.inside.shut (closes result) o) (sym c.breaks_off-self-inside.ensures) stands)
+    let can : IsOpen c.self.inside.end.state.got = record { unclosed = sym c.self.invariant.ended_is ∙ c.if-self.false; whole = sym c.self.invariant.fault_is ∙ c.in-None.is } in
+    let stands = read_stands _ _ _ _ _ _ _ _ _ _ _ c.self.invariant can c.read_next-answer.ensures.reads c.read_next-answer.ensures.bare in
+    subst (λ (b : Bool). IsSock c.read_next-answer.new.end c.self.inside.shut b c.breaks_off-self-inside.result) (sym c.closes-self-inside.ensures)
+    (subst (λ (o : Option SockFault). IsSock c.read_next-answer.new.end c.self.inside.shut (closes c.read_next-answer.result) o) (sym c.breaks_off-self-inside.ensures) stands)
 
 pub returns-in-None-clause-stream : goal.returns-in-None-clause-stream
 returns-in-None-clause-stream g c =
-    let told = g.S.Seatlike.told in
-    let tale = g.S.Seatlike.tale in
-    let same = g.S.Seatlike.same in
-    let old = c.self.inside.end in
-    let new = c.read_next-answer.new.end in
-    let result = c.read_next-answer.result in
-    let s = c.self.invariant in
-    let can : IsOpen old.state.got = record { unclosed = sym s.ended_is ∙ c.if-self.false; whole = sym s.fault_is ∙ c.in-None.is } in
-    read_stream told tale same old new result c.args.out.now c.read_next-answer.new.out can c.read_next-answer.ensures.reads
-    ∙ ap (λ (x : Seen _). stream_of x.state.got ++ bytes_read result c.read_next-answer.new.out) c.self.view_is
+    let can : IsOpen c.self.inside.end.state.got = record { unclosed = sym c.self.invariant.ended_is ∙ c.if-self.false; whole = sym c.self.invariant.fault_is ∙ c.in-None.is } in
+    read_stream _ _ _ _ _ _ _ _ can c.read_next-answer.ensures.reads ∙ ap (λ (x : Seen _). stream_of x.state.got ++ bytes_read c.read_next-answer.result c.read_next-answer.new.out) c.self.view_is
 
 pub returns-in-None-clause-closed : goal.returns-in-None-clause-closed
 returns-in-None-clause-closed g c =
-    let told = g.S.Seatlike.told in
-    let tale = g.S.Seatlike.tale in
-    let same = g.S.Seatlike.same in
-    let old = c.self.inside.end in
-    let new = c.read_next-answer.new.end in
-    let result = c.read_next-answer.result in
-    let s = c.self.invariant in
-    let can : IsOpen old.state.got = record { unclosed = sym s.ended_is ∙ c.if-self.false; whole = sym s.fault_is ∙ c.in-None.is } in
-    read_closed told tale same old new result c.args.out.now c.read_next-answer.new.out can c.read_next-answer.ensures.reads
+    let can : IsOpen c.self.inside.end.state.got = record { unclosed = sym c.self.invariant.ended_is ∙ c.if-self.false; whole = sym c.self.invariant.fault_is ∙ c.in-None.is } in
+    read_closed _ _ _ _ _ _ _ _ can c.read_next-answer.ensures.reads
 
 pub returns-in-None-clause-fault : goal.returns-in-None-clause-fault
 returns-in-None-clause-fault g c =
-    let told = g.S.Seatlike.told in
-    let tale = g.S.Seatlike.tale in
-    let same = g.S.Seatlike.same in
-    let old = c.self.inside.end in
-    let new = c.read_next-answer.new.end in
-    let result = c.read_next-answer.result in
-    let s = c.self.invariant in
-    let can : IsOpen old.state.got = record { unclosed = sym s.ended_is ∙ c.if-self.false; whole = sym s.fault_is ∙ c.in-None.is } in
-    read_fault told tale same old new result c.args.out.now c.read_next-answer.new.out can c.read_next-answer.ensures.reads
+    let can : IsOpen c.self.inside.end.state.got = record { unclosed = sym c.self.invariant.ended_is ∙ c.if-self.false; whole = sym c.self.invariant.fault_is ∙ c.in-None.is } in
+    read_fault _ _ _ _ _ _ _ _ can c.read_next-answer.ensures.reads

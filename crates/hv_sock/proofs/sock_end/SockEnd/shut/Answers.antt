@@ -23,8 +23,8 @@ invariant_of-self g c =
     (c.is_ok-self-inside.ensures.value ∙ sym (ended_closed told tale same p old new result s.rests sends can says_end))
     (sent_whole told tale same p old new result s.rests sends can (ap (λ (x : Said). fault_by x None) says_end))
 
-pub returns-clause-sends : goal.returns-clause-sends
-returns-clause-sends g c =
+pub returns : goal.returns
+returns g c =
     let told = g.S.Seatlike.told in
     let tale = g.S.Seatlike.tale in
     let same = g.S.Seatlike.same in
@@ -35,60 +35,10 @@ returns-clause-sends g c =
     let p = sock_packet [] in
     let sends = subst (λ (q : List ℕ). Sends _ told tale same q old new result) end_words c.send_packet-answer.ensures.sends in
     let can : IsOpen old.state.sent = record { unclosed = ap (λ (x : Seen _). is_closed x.state.sent) c.self.view_is ∙ c.requires.open; whole = s.whole } in
-    subst (λ (x : Seen _). Sends _ told tale same p x new result) c.self.view_is sends
-
-pub returns-clause-sent : goal.returns-clause-sent
-returns-clause-sent g c =
-    let told = g.S.Seatlike.told in
-    let tale = g.S.Seatlike.tale in
-    let same = g.S.Seatlike.same in
-    let old = c.self.inside.end in
-    let new = c.send_packet-answer.new.end in
-    let result = c.send_packet-answer.result in
-    let s = c.self.invariant in
-    let p = sock_packet [] in
-    let sends = subst (λ (q : List ℕ). Sends _ told tale same q old new result) end_words c.send_packet-answer.ensures.sends in
-    let can : IsOpen old.state.sent = record { unclosed = ap (λ (x : Seen _). is_closed x.state.sent) c.self.view_is ∙ c.requires.open; whole = s.whole } in
-    subst (λ (x : Seen _). OnOk result (new.state.sent ≡ x.state.sent ++ p ∷ [])) c.self.view_is (sent_ok told tale same p old new result s.rests sends)
-
-pub returns-clause-unsent : goal.returns-clause-unsent
-returns-clause-unsent g c =
-    let told = g.S.Seatlike.told in
-    let tale = g.S.Seatlike.tale in
-    let same = g.S.Seatlike.same in
-    let old = c.self.inside.end in
-    let new = c.send_packet-answer.new.end in
-    let result = c.send_packet-answer.result in
-    let s = c.self.invariant in
-    let p = sock_packet [] in
-    let sends = subst (λ (q : List ℕ). Sends _ told tale same q old new result) end_words c.send_packet-answer.ensures.sends in
-    let can : IsOpen old.state.sent = record { unclosed = ap (λ (x : Seen _). is_closed x.state.sent) c.self.view_is ∙ c.requires.open; whole = s.whole } in
-    subst (λ (x : Seen _). OnErr result ((new.state.sent ≡ x.state.sent) × (new.spare_sent ≡ x.spare_sent))) c.self.view_is (sent_err told tale same p old new result s.rests sends)
-
-pub returns-clause-stream : goal.returns-clause-stream
-returns-clause-stream g c =
-    let told = g.S.Seatlike.told in
-    let tale = g.S.Seatlike.tale in
-    let same = g.S.Seatlike.same in
-    let old = c.self.inside.end in
-    let new = c.send_packet-answer.new.end in
-    let result = c.send_packet-answer.result in
-    let s = c.self.invariant in
-    let p = sock_packet [] in
-    let sends = subst (λ (q : List ℕ). Sends _ told tale same q old new result) end_words c.send_packet-answer.ensures.sends in
-    let can : IsOpen old.state.sent = record { unclosed = ap (λ (x : Seen _). is_closed x.state.sent) c.self.view_is ∙ c.requires.open; whole = s.whole } in
-    ended_stream told tale same p old new result s.rests sends can says_end ∙ ap (λ (x : Seen _). stream_of x.state.sent) c.self.view_is
-
-pub returns-clause-closed : goal.returns-clause-closed
-returns-clause-closed g c =
-    let told = g.S.Seatlike.told in
-    let tale = g.S.Seatlike.tale in
-    let same = g.S.Seatlike.same in
-    let old = c.self.inside.end in
-    let new = c.send_packet-answer.new.end in
-    let result = c.send_packet-answer.result in
-    let s = c.self.invariant in
-    let p = sock_packet [] in
-    let sends = subst (λ (q : List ℕ). Sends _ told tale same q old new result) end_words c.send_packet-answer.ensures.sends in
-    let can : IsOpen old.state.sent = record { unclosed = ap (λ (x : Seen _). is_closed x.state.sent) c.self.view_is ∙ c.requires.open; whole = s.whole } in
-    on_ok result (is_closed new.state.sent) (ended_closed told tale same p old new result s.rests sends can says_end)
+    record {
+      sends = subst (λ (x : Seen _). Sends _ told tale same p x new result) c.self.view_is sends;
+      sent = subst (λ (x : Seen _). OnOk result (new.state.sent ≡ x.state.sent ++ p ∷ [])) c.self.view_is (sent_ok told tale same p old new result s.rests sends);
+      unsent = subst (λ (x : Seen _). OnErr result ((new.state.sent ≡ x.state.sent) × (new.spare_sent ≡ x.spare_sent))) c.self.view_is (sent_err told tale same p old new result s.rests sends);
+      stream = ended_stream told tale same p old new result s.rests sends can says_end ∙ ap (λ (x : Seen _). stream_of x.state.sent) c.self.view_is;
+      closed = on_ok result (is_closed new.state.sent) (ended_closed told tale same p old new result s.rests sends can says_end);
+    }

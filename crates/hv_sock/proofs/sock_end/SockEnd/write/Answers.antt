@@ -32,8 +32,8 @@ invariant_of-self g c =
     (s.shut_is ∙ (can.unclosed ∙ sym (sent_open told tale same p c.args.bytes.now old new result s.rests sends can said)))
     (sent_whole told tale same p old new result s.rests sends can (ap (λ (x : Said). fault_by x None) said))
 
-pub returns-clause-sends : goal.returns-clause-sends
-returns-clause-sends g c =
+pub returns : goal.returns
+returns g c =
     let told = g.S.Seatlike.told in
     let tale = g.S.Seatlike.tale in
     let same = g.S.Seatlike.same in
@@ -45,64 +45,10 @@ returns-clause-sends g c =
     let sends = subst (λ (q : List ℕ). Sends _ told tale same q old new result) c.put_packet-words.ensures.packet c.send_packet.ensures.sends in
     let can : IsOpen old.state.sent = record { unclosed = ap (λ (x : Seen _). is_closed x.state.sent) c.self.view_is ∙ c.requires.open; whole = s.whole } in
     let said = says_data c.args.bytes.now c.requires.bytes.0 c.requires.bytes.1 (λ i. omega (arith, c.type_inv.bytes i)) in
-    subst (λ (x : Seen _). Sends _ told tale same p x new result) c.self.view_is sends
-
-pub returns-clause-sent : goal.returns-clause-sent
-returns-clause-sent g c =
-    let told = g.S.Seatlike.told in
-    let tale = g.S.Seatlike.tale in
-    let same = g.S.Seatlike.same in
-    let old = c.self.inside.end in
-    let new = c.send_packet.new.end in
-    let result = c.send_packet.result in
-    let s = c.self.invariant in
-    let p = sock_packet c.args.bytes.now in
-    let sends = subst (λ (q : List ℕ). Sends _ told tale same q old new result) c.put_packet-words.ensures.packet c.send_packet.ensures.sends in
-    let can : IsOpen old.state.sent = record { unclosed = ap (λ (x : Seen _). is_closed x.state.sent) c.self.view_is ∙ c.requires.open; whole = s.whole } in
-    let said = says_data c.args.bytes.now c.requires.bytes.0 c.requires.bytes.1 (λ i. omega (arith, c.type_inv.bytes i)) in
-    subst (λ (x : Seen _). OnOk result (new.state.sent ≡ x.state.sent ++ p ∷ [])) c.self.view_is (sent_ok told tale same p old new result s.rests sends)
-
-pub returns-clause-unsent : goal.returns-clause-unsent
-returns-clause-unsent g c =
-    let told = g.S.Seatlike.told in
-    let tale = g.S.Seatlike.tale in
-    let same = g.S.Seatlike.same in
-    let old = c.self.inside.end in
-    let new = c.send_packet.new.end in
-    let result = c.send_packet.result in
-    let s = c.self.invariant in
-    let p = sock_packet c.args.bytes.now in
-    let sends = subst (λ (q : List ℕ). Sends _ told tale same q old new result) c.put_packet-words.ensures.packet c.send_packet.ensures.sends in
-    let can : IsOpen old.state.sent = record { unclosed = ap (λ (x : Seen _). is_closed x.state.sent) c.self.view_is ∙ c.requires.open; whole = s.whole } in
-    let said = says_data c.args.bytes.now c.requires.bytes.0 c.requires.bytes.1 (λ i. omega (arith, c.type_inv.bytes i)) in
-    subst (λ (x : Seen _). OnErr result ((new.state.sent ≡ x.state.sent) × (new.spare_sent ≡ x.spare_sent))) c.self.view_is (sent_err told tale same p old new result s.rests sends)
-
-pub returns-clause-stream : goal.returns-clause-stream
-returns-clause-stream g c =
-    let told = g.S.Seatlike.told in
-    let tale = g.S.Seatlike.tale in
-    let same = g.S.Seatlike.same in
-    let old = c.self.inside.end in
-    let new = c.send_packet.new.end in
-    let result = c.send_packet.result in
-    let s = c.self.invariant in
-    let p = sock_packet c.args.bytes.now in
-    let sends = subst (λ (q : List ℕ). Sends _ told tale same q old new result) c.put_packet-words.ensures.packet c.send_packet.ensures.sends in
-    let can : IsOpen old.state.sent = record { unclosed = ap (λ (x : Seen _). is_closed x.state.sent) c.self.view_is ∙ c.requires.open; whole = s.whole } in
-    let said = says_data c.args.bytes.now c.requires.bytes.0 c.requires.bytes.1 (λ i. omega (arith, c.type_inv.bytes i)) in
-    subst (λ (x : Seen _). OnOk result (stream_of new.state.sent ≡ stream_of x.state.sent ++ c.args.bytes.now)) c.self.view_is (sent_stream told tale same p c.args.bytes.now old new result s.rests sends can said)
-
-pub returns-clause-open : goal.returns-clause-open
-returns-clause-open g c =
-    let told = g.S.Seatlike.told in
-    let tale = g.S.Seatlike.tale in
-    let same = g.S.Seatlike.same in
-    let old = c.self.inside.end in
-    let new = c.send_packet.new.end in
-    let result = c.send_packet.result in
-    let s = c.self.invariant in
-    let p = sock_packet c.args.bytes.now in
-    let sends = subst (λ (q : List ℕ). Sends _ told tale same q old new result) c.put_packet-words.ensures.packet c.send_packet.ensures.sends in
-    let can : IsOpen old.state.sent = record { unclosed = ap (λ (x : Seen _). is_closed x.state.sent) c.self.view_is ∙ c.requires.open; whole = s.whole } in
-    let said = says_data c.args.bytes.now c.requires.bytes.0 c.requires.bytes.1 (λ i. omega (arith, c.type_inv.bytes i)) in
-    sent_open told tale same p c.args.bytes.now old new result s.rests sends can said
+    record {
+      sends = subst (λ (x : Seen _). Sends _ told tale same p x new result) c.self.view_is sends;
+      sent = subst (λ (x : Seen _). OnOk result (new.state.sent ≡ x.state.sent ++ p ∷ [])) c.self.view_is (sent_ok told tale same p old new result s.rests sends);
+      unsent = subst (λ (x : Seen _). OnErr result ((new.state.sent ≡ x.state.sent) × (new.spare_sent ≡ x.spare_sent))) c.self.view_is (sent_err told tale same p old new result s.rests sends);
+      stream = subst (λ (x : Seen _). OnOk result (stream_of new.state.sent ≡ stream_of x.state.sent ++ c.args.bytes.now)) c.self.view_is (sent_stream told tale same p c.args.bytes.now old new result s.rests sends can said);
+      «open» = sent_open told tale same p c.args.bytes.now old new result s.rests sends can said;
+    }

@@ -1,4 +1,4 @@
-use Rattle.ring_core.proofs.Goings.{drive_leaves, may_first}
+use Rattle.ring_core.proofs.Driving.{drive_leaves, may_first}
 use Rattle.ring_core.proofs.driver.PlainLoopDriver.drive.Goals as goal
 
 pub steps_on-requires-clause-may : goal.steps_on-requires-clause-may

@@ -1,29 +1,13 @@
 use Rattle.std.proofs.Common.{◌∙◌}
-use Rattle.ring_core.proofs.Goings.{drive_leaves, goes_as, goes_more, may_first, may_more}
+use Rattle.ring_core.proofs.Driving.{drive_leaves, goes_as, goes_more, may_first}
 use Rattle.ring_core.proofs.driver.SendLoopsDriver.drive.Goals as goal
 
 pub steps_at-requires-clause-may : goal.steps_at-requires-clause-may
 steps_at-requires-clause-may g c = may_first c.requires
 
-pub steps_at-requires-2-clause-may : goal.steps_at-requires-2-clause-may
-steps_at-requires-2-clause-may g c = may_more (may_first c.requires) c.steps_at.ensures.goes
-
-pub steps_at-requires-3-clause-may : goal.steps_at-requires-3-clause-may
-steps_at-requires-3-clause-may g c = may_more (may_more (may_first c.requires) c.steps_at.ensures.goes) c.steps_at-2.ensures.goes
-
-pub steps_at-requires-4-clause-may : goal.steps_at-requires-4-clause-may
-steps_at-requires-4-clause-may g c = may_more (may_more (may_more (may_first c.requires) c.steps_at.ensures.goes) c.steps_at-2.ensures.goes) c.steps_at-3.ensures.goes
-
-pub steps_at-requires-5-clause-may : goal.steps_at-requires-5-clause-may
-steps_at-requires-5-clause-may g c = may_more (may_more (may_more (may_more (may_first c.requires) c.steps_at.ensures.goes) c.steps_at-2.ensures.goes) c.steps_at-3.ensures.goes) (goes_as c.send_back.ensures.machine c.steps_at-4.ensures.goes)
-
-pub steps_at-requires-6-clause-may : goal.steps_at-requires-6-clause-may
-steps_at-requires-6-clause-may g c = may_more (may_more (may_more (may_more (may_more (may_first c.requires) c.steps_at.ensures.goes) c.steps_at-2.ensures.goes) c.steps_at-3.ensures.goes) (goes_as c.send_back.ensures.machine c.steps_at-4.ensures.goes)) c.steps_at-5.ensures.goes
-
-pub steps_on-requires-clause-may : goal.steps_on-requires-clause-may
-steps_on-requires-clause-may g c = may_more (may_more (may_more (may_more (may_more (may_more (may_first c.requires) c.steps_at.ensures.goes) c.steps_at-2.ensures.goes) c.steps_at-3.ensures.goes) (goes_as c.send_back.ensures.machine c.steps_at-4.ensures.goes)) c.steps_at-5.ensures.goes) c.steps_at-6.ensures.goes
-
 pub returns : goal.returns
 returns g c =
-    let same_trans = g.met.S.Seatlike.same_trans in
-    drive_leaves c.requires (goes_more same_trans (goes_more same_trans (goes_more same_trans (goes_more same_trans (goes_more same_trans (goes_more same_trans c.steps_at.ensures.goes c.steps_at-2.ensures.goes) c.steps_at-3.ensures.goes) (goes_as c.send_back.ensures.machine c.steps_at-4.ensures.goes)) c.steps_at-5.ensures.goes) c.steps_at-6.ensures.goes) c.steps_on.ensures.goes) (c.steps_on.ensures.pages ∙ (c.steps_at-6.ensures.pages ∙ (c.steps_at-5.ensures.pages ∙ c.send_back.ensures.pages))) c.steps_on.ensures.idle
+    let trans = g.met.S.Seatlike.same_trans in
+    drive_leaves c.requires
+    (goes_more trans c.steps_at.ensures.goes (goes_more trans c.steps_at-2.ensures.goes (goes_more trans c.steps_at-3.ensures.goes (goes_more trans (goes_as c.send_back.ensures.machine c.steps_at-4.ensures.goes) (goes_more trans c.steps_at-5.ensures.goes (goes_more trans c.steps_at-6.ensures.goes c.steps_on.ensures.goes))))))
+    (c.steps_on.ensures.pages ∙ (c.steps_at-6.ensures.pages ∙ (c.steps_at-5.ensures.pages ∙ c.send_back.ensures.pages))) c.steps_on.ensures.idle

@@ -1,8 +1,6 @@
-use Rattle.std.proofs.Common.{sym, ◌∙◌, subst}
+use Rattle.std.proofs.Common.{◌∙◌}
 use Rattle.page_table.specs.Table.{part_in}
-use Rattle.ring_machine.specs.States.{MayLend}
 use Rattle.ring_core.specs.Laying.{laid}
-use Rattle.ring_core.specs.Seen.{Seen}
 use Rattle.ring_core.proofs.ListLaws.{keeps_on}
 use Rattle.ring_core.proofs.Laying.{laid_is}
 use Rattle.ring_core.proofs.end.End.lay.Goals as goal
@@ -13,6 +11,3 @@ invariant_of-self g c =
     let p = c.args.p.now in
     let e = c.lay.ensures in
     keeps_on (laid old p c.args.words.now).copy c.self.invariant e.kept.0.sent e.kept.0.got (e.pages ∙ laid_is old (part_in old.owners p) c.args.words.now) e.kept.1 (g.met.S.Seatlike.same_pages _ _ e.same)
-
-pub lay-requires-clause-lends : goal.lay-requires-clause-lends
-lay-requires-clause-lends g c = subst (λ (x : Seen _). MayLend x.state c.args.p.now) (sym c.self.view_is) c.requires.lends

@@ -1,42 +1,17 @@
-use Rattle.std.proofs.Common.{◌≡◌, ◌≢◌, ℕ, List, Some, None, [], ◌∷◌, ◌++◌, length, sym, ap, ◌∙◌, subst, arith}
-use Rattle.page_kept.specs.declared.due.Due.TheVariants.{Clear, Loads as DueLoads}
-use Rattle.page_kept.specs.declared.page_call.PageCall.TheVariants.{LoadWords}
-use Rattle.page_kept.specs.Items.{item_of, values}
+use Rattle.std.proofs.Common.{[], ◌∷◌, ◌++◌, sym, ap, ◌∙◌, subst, arith, ◌≡◌, ℕ, List, length}
+use Rattle.page_kept.specs.Items.{values, item_of}
 use Rattle.page_table.specs.Table.{word_of}
-use Rattle.ring_machine.specs.PageCalls.{newest}
 use Rattle.ring_core.specs.Driven.{Lean}
 use Rattle.ring_core.specs.Keeping.{Keeps}
-use Rattle.ring_core.specs.PageRuns.{RanPages}
-use Rattle.ring_core.specs.Pages.{last_words, owed, part_len, part_words}
+use Rattle.ring_core.specs.Pages.{owed, part_words, last_words, part_len}
 use Rattle.ring_core.specs.Seen.{Listed, Seen}
-use Rattle.ring_core.proofs.ListLaws.{by_due, keeps_loaded, list_paged}
+use Rattle.ring_core.proofs.ListLaws.{by_due, keeps_loaded}
+use Rattle.page_kept.specs.declared.due.Due.TheVariants.{Clear, Loads as DueLoads}
+use Rattle.page_kept.specs.declared.page_call.PageCall.TheVariants.{LoadWords}
+use Rattle.ring_machine.specs.PageCalls.{newest}
+use Rattle.ring_core.specs.PageRuns.{RanPages}
 use Rattle.ring_core.proofs.Paging.{last_more, values_long}
 use Rattle.ring_core.proofs.end.End.load_in.Goals as goal
-
-pub keep_words-requires-clause-paged : goal.keep_words-requires-clause-paged
-keep_words-requires-clause-paged g c = λ a is.
-    let e = c.load-part.ensures in
-    let inside = (e.inside a is).0 in
-    let some : c.self.inside.lean.driven.state.pages.count ≢ 0 = λ z. omega (arith, z, inside, e.held.0) in
-    let x = e.all (λ z. let y : None ≡ Some a = sym (e.none z).0 ∙ is in cc) in
-    (list_paged c.self.invariant.got some, c.self.invariant.got.place some (omega (arith, ap owed x.2.due)))
-
-pub keep_words-requires-clause-words : goal.keep_words-requires-clause-words
-keep_words-requires-clause-words g c = omega (arith, c.requires.room, ap (λ (x : Seen _). x.spare_got.words) c.self.view_is)
-
-pub invariant_of-self : goal.invariant_of-self
-invariant_of-self g c =
-    let old = c.self.inside.lean.driven.state in
-    let new = c.load-part.new.self.driven.state in
-    let e = c.load-part.ensures in
-    let k = c.keep_words.ensures in
-    by_due old.pages.due
-    (λ d. let z = e.none d in subst (λ (x : Lean _ × Listed). Keeps g.S.Seatlike.pages x.0 c.self.inside.sent x.1) (λ i. (sym z.1 i, sym (k.none z.0) i)) c.self.invariant)
-    (λ d.
-    let x = e.all d in
-    let inside = (e.inside x.0 x.1).0 in
-    keeps_loaded (values x.0.words (word_of new.pages.copy x.0.page)) c.self.invariant (λ z. omega (arith, z, inside, e.held.0)) (ap owed x.2.due) x.2.clear e.kept.0.sent e.kept.0.got e.held.0 e.held.1 x.2.got k.list (k.lent x.0 x.1 ∙ ap (λ o. c.self.inside.got.lent ++ part_words new.pages.copy o ∷ []) x.1) e.kept.1
-    (g.met.S.Seatlike.same_pages _ _ e.same))
 
 pub returns : goal.returns
 returns g c =
@@ -89,3 +64,17 @@ returns g c =
         same_seat = subst (λ (x : Seen _). g.S.Seatlike.same x.seat n.seat) v e.same;
       };
     }
+
+pub invariant_of-self : goal.invariant_of-self
+invariant_of-self g c =
+    let old = c.self.inside.lean.driven.state in
+    let new = c.load-part.new.self.driven.state in
+    let e = c.load-part.ensures in
+    let k = c.keep_words.ensures in
+    by_due old.pages.due
+    (λ d. let z = e.none d in subst (λ (x : Lean _ × Listed). Keeps g.S.Seatlike.pages x.0 c.self.inside.sent x.1) (λ i. (sym z.1 i, sym (k.none z.0) i)) c.self.invariant)
+    (λ d.
+    let x = e.all d in
+    let inside = (e.inside x.0 x.1).0 in
+    keeps_loaded (values x.0.words (word_of new.pages.copy x.0.page)) c.self.invariant (λ z. omega (arith, z, inside, e.held.0)) (ap owed x.2.due) x.2.clear e.kept.0.sent e.kept.0.got e.held.0 e.held.1 x.2.got k.list (k.lent x.0 x.1 ∙ ap (λ o. c.self.inside.got.lent ++ part_words new.pages.copy o ∷ []) x.1) e.kept.1
+    (g.met.S.Seatlike.same_pages _ _ e.same))

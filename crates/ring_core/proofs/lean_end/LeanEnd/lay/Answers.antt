@@ -68,11 +68,6 @@ returns-in_default-clause-words g c =
     subst (λ (x : Lean _). x.driven.state.pages.count ≢ 0 → take (length c.args.words.now) (last_words (pages_sent (layout x.driven.state.pages.count) x.driven.state.pages p).sent) ≡ c.args.words.now) c.self.view_is
     (words_on s p c.args.words.now None it.listed.count e.part e.loan c.lends_in_bounds.ensures.copied (omega (arith, c.requires.fits, ap (λ (x : Lean _). along x.driven.state.pages p) c.self.view_is)))
 
-pub store_words-requires-clause-pages : goal.store_words-requires-clause-pages
-store_words-requires-clause-pages g c =
-    let it = c.self.inside.parts in
-    c.self.invariant.pages (λ z. omega (arith, z, c.in-Some.ensures.loan.0, it.listed.count))
-
 pub invariant_of-self : goal.invariant_of-self
 invariant_of-self g c =
     let it = c.self.inside.parts in

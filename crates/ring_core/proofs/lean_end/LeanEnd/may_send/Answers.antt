@@ -4,8 +4,7 @@ use Rattle.ring_machine.specs.States.{MayLend}
 use Rattle.ring_machine.specs.declared.state.EndState.{EndState}
 use Rattle.ring_core.specs.Driven.{Lean}
 use Rattle.ring_core.specs.Listing.{standing}
-use Rattle.ring_core.proofs.Counts.{answers_is, asks_is}
-use Rattle.ring_core.proofs.Lendable.{guard_may, guard_whole, packets_of}
+use Rattle.ring_core.proofs.Lendable.{answers_is, asks_is, guard_may, guard_whole, packets_of}
 use Rattle.ring_core.proofs.lean_end.LeanEnd.may_send.Goals as goal
 
 pub returns-then-not-is_due-clause-may : goal.returns-then-not-is_due-clause-may

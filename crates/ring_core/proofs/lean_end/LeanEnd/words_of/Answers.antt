@@ -3,11 +3,5 @@ use Rattle.ring_core.specs.Pages.{part_len}
 use Rattle.ring_core.proofs.Paging.{part_long}
 use Rattle.ring_core.proofs.lean_end.LeanEnd.words_of.Goals as goal
 
-pub words-requires-clause-page : goal.words-requires-clause-page
-words-requires-clause-page g c = (c.requires.inside c.in-Some.part c.in-Some.is).0
-
-pub words-requires-clause-words : goal.words-requires-clause-words
-words-requires-clause-words g c = (c.requires.inside c.in-Some.part c.in-Some.is).1
-
 pub returns-in-Some-clause-len : goal.returns-in-Some-clause-len
 returns-in-Some-clause-len g c = ap length c.words.ensures ∙ (part_long c.args.self.now.driven.state.pages.copy (Some c.in-Some.part) ∙ ap part_len (sym c.in-Some.is))

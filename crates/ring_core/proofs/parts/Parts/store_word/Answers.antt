@@ -8,7 +8,7 @@ use Rattle.ring_machine.specs.PageCalls.{page_op}
 use Rattle.ring_core.specs.Listing.{got_in, sent_in}
 use Rattle.ring_core.specs.Told.{answer_of, memory_after, told_page}
 use Rattle.ring_core.proofs.Loading.{stored_one}
-use Rattle.ring_core.proofs.Stores.{fed_same}
+use Rattle.ring_core.proofs.Laying.{fed_same}
 use Rattle.ring_core.proofs.parts.Parts.store_word.Goals as goal
 
 pub returns-clause-ran : goal.returns-clause-ran
@@ -24,6 +24,3 @@ returns-clause-ran g c =
     (λ u e. s.ensures.tells u e ∙ ap (λ (d : PageCall). Some (told_page u d s.result)) call)
     (λ y op e n. subst (λ (m : EndMachine). ((g.S.Seatlike.tale s.new.seat).memory ≡ Some (memory_after m.cells op y)) × (s.result ≡ answer_of m.cells op y)) c.begin_page_store.ensures.machine (s.ensures.runs y op e (ap page_op call ∙ n))) s.ensures.hears
     refl refl refl refl (sym (fed_same k c.args.page c.args.word c.args.v it.listed.off)) (ap (λ (t : Table). t.owners) c.set_word.ensures) (ap (λ (t : Table). t.copy) c.set_word.ensures)
-
-pub begin_page_store-requires-clause-quiet : goal.begin_page_store-requires-clause-quiet
-begin_page_store-requires-clause-quiet g c = record { off = c.args.self.now.listed.off; clear = c.requires.may.clear }

@@ -1,6 +1,16 @@
 use Rattle.ring_core.specs.Listing.{got_in, sent_in}
 use Rattle.ring_core.proofs.parts.Parts.store_words.Goals as goal
 
+pub returns-clause-ran : goal.returns-clause-ran
+returns-clause-ran g c =
+    let it = c.args.self.now in
+    c.store_words.ensures.stores.ran (sent_in it.past.events it.lent.events) (got_in it.past.events it.lent.events) it.past.events c.requires.told
+
+pub returns-clause-pages : goal.returns-clause-pages
+returns-clause-pages g c =
+    let it = c.args.self.now in
+    c.store_words.ensures.stores.pages (sent_in it.past.events it.lent.events) (got_in it.past.events it.lent.events)
+
 pub store_words-requires-clause-rests : goal.store_words-requires-clause-rests
 store_words-requires-clause-rests g c =
     let it = c.args.self.now in
@@ -15,16 +25,3 @@ store_words-requires-clause-rests g c =
       past = it.past.events;
       stands = c.requires.told;
     }
-
-pub returns-clause-ran : goal.returns-clause-ran
-returns-clause-ran g c =
-    let it = c.args.self.now in
-    c.store_words.ensures.stores.ran (sent_in it.past.events it.lent.events) (got_in it.past.events it.lent.events) it.past.events c.requires.told
-
-pub returns-clause-pages : goal.returns-clause-pages
-returns-clause-pages g c =
-    let it = c.args.self.now in
-    c.store_words.ensures.stores.pages (sent_in it.past.events it.lent.events) (got_in it.past.events it.lent.events)
-
-pub store_words-requires-clause-may : goal.store_words-requires-clause-may
-store_words-requires-clause-may g c = λ sent got w h. let m = c.requires.may w h in record { clear = m.clear; page = m.page; word = m.word; owns = m.owns }
