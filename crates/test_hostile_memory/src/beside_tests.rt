@@ -2,7 +2,7 @@
 ghost use Rattle.std.specs.Prelude.{◌≡◌};
 
 use crate::check::check;
-use crate::opened::opened;
+use crate::opened::{leave, opened};
 use hostile_memory::{OpenEnd, Scribbler};
 use ring_core::{Armed, Bad, Place, Ring, Side, TakeRefusal, Why, may_take};
 use std::alloc::AllocGlobal;
@@ -49,16 +49,16 @@ fn is_stopped(end: &mut OpenEnd, bad: Bad) -> bool {
 }
 
 // Takes until the end stops, at most `TAKES` times. Gives how often, or none where a take told something untrue.
-fn takes(mut end: OpenEnd) -> Option<u32> {
+fn takes(end: &mut OpenEnd) -> Option<u32> {
     for made in 0..TAKES {
-        if !may_take(&end) {
+        if !may_take(end) {
             return None;
         }
         match end.take_in() {
             Ok(()) => {}
             Err(TakeRefusal::Empty { .. }) => {}
             Err(TakeRefusal::Malformed(bad)) => {
-                return if breaks(bad) && is_stopped(&mut end, bad) {
+                return if breaks(bad) && is_stopped(end, bad) {
                     Some(made + 1)
                 } else {
                     None
@@ -70,12 +70,19 @@ fn takes(mut end: OpenEnd) -> Option<u32> {
     Some(TAKES)
 }
 
+// The same, and the end goes.
+fn takes_all(mut end: OpenEnd) -> Option<u32> {
+    let made = takes(&mut end);
+    leave(end);
+    made
+}
+
 // How many takes an end makes beside a hand on a second thread.
 fn takes_beside<R: Threads + Wait + Abort + AllocGlobal + Sync>(rt: &R, seed: u64) -> Option<u32> {
     let (end, hand) = opened(rt);
     let (made, _) = join(
         rt,
-        move || { takes(end) },
+        move || { takes_all(end) },
         move ||
             requires { hand.cells ≡ 512 }
         { scribble(hand, seed) },
@@ -103,17 +110,24 @@ fn a_thousand_takes_beside_a_hand(rt: HostRuntime) {
 }
 
 // Arms, sleeps until the signal was up, and tells whether the end is awake again.
-fn wakes<R: Wait>(rt: &R, mut end: OpenEnd) -> bool {
+fn wakes<R: Wait>(rt: &R, end: &mut OpenEnd) -> bool {
     if !end.is_ready() || end.is_due() {
         return false;
     }
     end.commit();
     let armed = end.arm(None);
     if matches!(armed, Armed::Asleep) && end.is_asleep() {
-        ring_sleep::sleep(&mut end, rt);
+        ring_sleep::sleep(end, rt);
         return !end.is_asleep();
     }
     false
+}
+
+// The same, and the end goes.
+fn wakes_once<R: Wait>(rt: &R, mut end: OpenEnd) -> bool {
+    let awake = wakes(rt, &mut end);
+    leave(end);
+    awake
 }
 
 // Raises the guest's signal.
@@ -126,6 +140,10 @@ fn raise(mut hand: Scribbler) {
 fn a_hand_wakes_an_end(rt: HostRuntime) {
     let (end, hand) = opened(&rt);
     let run = &rt;
-    let (awake, _) = join(run, move || { wakes(run, end) }, move || { raise(hand) });
+    let (awake, _) = join(
+        run,
+        move || { wakes_once(run, end) },
+        move || { raise(hand) },
+    );
     check(&rt, awake);
 }

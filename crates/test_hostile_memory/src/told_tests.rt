@@ -90,23 +90,25 @@ fn are_stored(served: &Served<ToldMem>, values: &[u64]) -> bool {
     true
 }
 
+// Whether a worker ended so, and served these stores.
+fn ends_so(served: Served<ToldMem>, ended: Ended, values: &[u64]) -> bool {
+    served.ended == ended && are_stored(&served, values)
+}
+
 // A take loads the write index in step 1, and the three words in steps 2, 3 and 4. What stands there afterwards isn't looked at.
 #[test]
 fn words_that_change_behind_their_loads(rt: HostRuntime) {
     let longer = serve(&rt, 3, Place::Cell(Ring::ToGuest, 0), LONG, 9);
-    check(&rt, longer.ended == Ended::PeerMarked);
-    check(&rt, are_stored(&longer, &[7, 8]));
+    check(&rt, ends_so(longer, Ended::PeerMarked, &[7, 8]));
     let other = serve(&rt, 5, Place::Cell(Ring::ToGuest, 16), 9, 9);
-    check(&rt, other.ended == Ended::PeerMarked);
-    check(&rt, are_stored(&other, &[7, 8]));
+    check(&rt, ends_so(other, Ended::PeerMarked, &[7, 8]));
 }
 
 // And what changes before its load is taken as it is then.
 #[test]
 fn a_word_that_changes_before_its_load(rt: HostRuntime) {
     let other = serve(&rt, 4, Place::Cell(Ring::ToGuest, 16), 9, 9);
-    check(&rt, other.ended == Ended::PeerMarked);
-    check(&rt, are_stored(&other, &[9, 8]));
+    check(&rt, ends_so(other, Ended::PeerMarked, &[9, 8]));
 }
 
 // A write index that is no multiple of 8, a length past what waits, and a read index past the ring end the worker, which tells the value. What it had served by then stays.
@@ -114,25 +116,23 @@ fn a_word_that_changes_before_its_load(rt: HostRuntime) {
 fn values_in_no_form(rt: HostRuntime) {
     let index = serve(&rt, 1, Place::Write(Ring::ToGuest), 60, 9);
     let why = Why::Malformed(Bad::Index { value: 60 });
-    check(&rt, index.ended == Ended::Broken { why });
-    check(&rt, are_stored(&index, &[]));
+    check(&rt, ends_so(index, Ended::Broken { why }, &[]));
     let length = serve(&rt, 2, Place::Cell(Ring::ToGuest, 0), LONG, 9);
     let why = Why::Malformed(Bad::Length {
         len8: 300,
         avail: 64,
     });
-    check(&rt, length.ended == Ended::Broken { why });
-    check(&rt, are_stored(&length, &[]));
+    check(&rt, ends_so(length, Ended::Broken { why }, &[]));
     let peer = serve(&rt, 1, Place::Read(Ring::ToHost), 4096, 9);
     let why = Why::BadPeer { index: 4096 };
-    check(&rt, peer.ended == Ended::Broken { why });
-    check(&rt, are_stored(&peer, &[7]));
+    check(&rt, ends_so(peer, Ended::Broken { why }, &[7]));
 }
 
 // A request past what is to be served isn't served, and ends the worker.
 #[test]
 fn more_requests_than_calls(rt: HostRuntime) {
     let served = serve(&rt, 1, Place::Cell(Ring::ToGuest, 4088), 1, 1);
-    check(&rt, matches!(served.ended, Ended::Room { left: 0, .. }));
-    check(&rt, are_stored(&served, &[7]));
+    let ended = served.ended;
+    check(&rt, matches!(ended, Ended::Room { left: 0, .. }));
+    check(&rt, ends_so(served, ended, &[7]));
 }

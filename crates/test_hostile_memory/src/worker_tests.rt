@@ -165,6 +165,15 @@ fn is_history(served: &Served<OpenSeat>) -> bool {
     true
 }
 
+// How many stores were served, or none where something isn't as it must be.
+fn count(served: Served<OpenSeat>) -> Option<usize> {
+    if has_ended(served.ended) && is_history(&served) {
+        Some(served.history.entries().len())
+    } else {
+        None
+    }
+}
+
 // Serves beside a hand on a second thread, and gives how many stores were served, or none where something isn't as it must be.
 fn serve_beside<R: Threads + Wait + AllocGlobal + Sync>(rt: &R, seed: u64) -> Option<usize> {
     let (end, hand) = OpenMem::make(rt.alloc(), 1, 0).ok()?;
@@ -178,12 +187,7 @@ fn serve_beside<R: Threads + Wait + AllocGlobal + Sync>(rt: &R, seed: u64) -> Op
             requires { hand.cells ≡ 512 }
         { scribble(hand, seed) },
     );
-    let served = served?;
-    if has_ended(served.ended) && is_history(&served) {
-        Some(served.history.entries().len())
-    } else {
-        None
-    }
+    count(served?)
 }
 
 // 100,000 steps of hands, each of 5,000 beside a worker on a channel of its own.

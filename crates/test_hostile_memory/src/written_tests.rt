@@ -2,7 +2,7 @@
 ghost use Rattle.std.specs.Prelude.{◌≡◌};
 
 use crate::check::check;
-use crate::opened::opened;
+use crate::opened::{leave, opened};
 use hostile_memory::{OpenEnd, Scribbler};
 use ring_core::{Bad, Place, Ring, TakeRefusal, Why, may_take};
 use std::alloc::AllocGlobal;
@@ -46,7 +46,9 @@ fn is_refused(rt: &(impl Abort + AllocGlobal), first: u64, index: u64, bad: Bad)
     let first_refusal = refusal(&mut end) == Some(TakeRefusal::Malformed(bad));
     write(&mut hand, 0x3_0002_0006, 32);
     let why = Why::Malformed(bad);
-    first_refusal && refusal(&mut end) == Some(TakeRefusal::Stopped { why })
+    let later = refusal(&mut end) == Some(TakeRefusal::Stopped { why });
+    leave(end);
+    first_refusal && later
 }
 
 #[test]
@@ -59,6 +61,7 @@ fn a_packet_that_a_hand_wrote_is_taken(rt: HostRuntime) {
         &rt,
         refusal(&mut end) == Some(TakeRefusal::Empty { at: 32 }),
     );
+    leave(end);
 }
 
 #[test]
@@ -89,4 +92,5 @@ fn a_hand_reads_what_stands_there(rt: HostRuntime) {
         end.commit();
     }
     check(&rt, hand.look(Place::Read(Ring::ToGuest)) == 32);
+    leave(end);
 }

@@ -8,8 +8,40 @@ use std::alloc::{AllocError, AllocGlobal, Global};
 use std::process::Abort;
 use trace_check::{TraceFault, Verdict, check as verdict_on};
 
-// A run of random calls of both ends over one memory, step by step in random turns: its lines, and what each end made, sent and got. Each has had room for all
-// its steps.
+// Random calls of both ends over one memory, step by step in random turns: what each end made, sent and got. Each has had room for all its steps.
+fn make_turns(
+    alloc: Global,
+    random: &mut Random,
+    turns: u32,
+    guest: &mut Turn,
+    host: &mut Turn,
+    text: &mut Vec<u8>,
+) -> Result<Verdict, AllocError> {
+    // The memory is the guest's. An end arms only where its peer is free, so that they don't sleep both.
+    for _ in 0..turns {
+        if random.number() % 2 == 0 {
+            guest.turn(alloc, random, host.is_free(), text)?;
+        } else {
+            host.swap(guest);
+            host.turn(alloc, random, guest.is_free(), text)?;
+            host.swap(guest);
+        }
+    }
+    if guest.full() || host.full() {
+        return Err(AllocError);
+    }
+    let (guest_steps, guest_sent, guest_got) = guest.counts();
+    let (host_steps, host_sent, host_got) = host.counts();
+    Ok(Verdict::Run {
+        steps: guest_steps.wrapping_add(host_steps),
+        guest_sent,
+        guest_got,
+        host_sent,
+        host_got,
+    })
+}
+
+// A run of random calls: its lines, and what each end made, sent and got.
 fn recorded(
     alloc: Global,
     random: &mut Random,
@@ -18,28 +50,7 @@ fn recorded(
     let mut text = Vec::new(alloc);
     let mut guest = Turn::make(alloc, Side::Guest, turns)?;
     let mut host = Turn::make(alloc, Side::Host, turns)?;
-    // The memory is the guest's. An end arms only where its peer is free, so that they don't sleep both.
-    for _ in 0..turns {
-        if random.number() % 2 == 0 {
-            guest.turn(alloc, random, host.is_free(), &mut text)?;
-        } else {
-            host.swap(&mut guest);
-            host.turn(alloc, random, guest.is_free(), &mut text)?;
-            host.swap(&mut guest);
-        }
-    }
-    if guest.full() || host.full() {
-        return Err(AllocError);
-    }
-    let (guest_steps, guest_sent, guest_got) = guest.counts();
-    let (host_steps, host_sent, host_got) = host.counts();
-    let run = Verdict::Run {
-        steps: guest_steps.wrapping_add(host_steps),
-        guest_sent,
-        guest_got,
-        host_sent,
-        host_got,
-    };
+    let run = make_turns(alloc, random, turns, &mut guest, &mut host, &mut text)?;
     Ok((text, run))
 }
 
