@@ -6,7 +6,7 @@ use Rattle.page_kept.specs.declared.item.Item.{Item}
 use Rattle.page_kept.specs.declared.kept.Kept.{Kept}
 use Rattle.page_kept.specs.declared.owner.Owner.{Owner}
 use Rattle.page_kept.specs.Keepers.{keeper}
-use Rattle.page_kept.specs.Kept.{first_owner, first_page, gives_back, is_held, lends_out, pages_sent, pages_took}
+use Rattle.page_kept.specs.Kept.{first_owner, pages_sent, pages_took}
 use Rattle.page_table.specs.Table.{first_owners}
 use Rattle.page_table.proofs.Moves.{first_long}
 use Rattle.page_kept.specs.Layouts.{layout}
@@ -19,7 +19,7 @@ use Rattle.ring_core.specs.Pages.{IsClear}
 use Rattle.ring_core.specs.Seen.{Seen, Kept as SeenKept}
 use Rattle.worker_port.specs.Line.{paged_end}
 use Rattle.worker_port.specs.declared.found.Tried.{Tried}
-use Rattle.worker_port.specs.declared.found.Tried.TheVariants.{Sent as TriedSent, Full as TriedFull, Broken as TriedBroken}
+use Rattle.worker_port.specs.declared.found.Tried.TheVariants.{Sent as TriedSent}
 use Rattle.worker_port.specs.Homes.{HasHome, KeepsHome, SendsHome}
 use Rattle.ring_core.proofs.Paging.{first_of}
 use Rattle.worker_port.proofs.PageLaws.{is_more, is_zero, sent_pages, took_pages}
@@ -42,31 +42,13 @@ home_same old new side list count sent owners = λ f h some.
 listed : (k : Kept) → k.count ≢ 0 → length k.owners ≡ k.count → IsListed (layout k.count) k
 listed k some long = record { pages = is_more k.count some; listed = long; inside = λ p a e. (loans.fits k.count p a e).0 }
 
-at_count : (s : Side) (f : ℕ → Bool) (got : List (List ℕ)) (k k' m : Kept) → k' ≡ m → k'.count ≡ k.count → HomeKept s k.count f (keeper (layout k.count) s got m) → HomeOf s f got k'
-at_count s f got k k' m is count h =
-    subst (λ c. HomeKept s c f (keeper (layout c) s got k')) (sym count) (subst (λ z. HomeKept s k.count f (keeper (layout k.count) s got z)) (sym is) h)
+at_count : (s : Side) (f : ℕ → Bool) (got : List (List ℕ)) (k k' m : Kept) → k' ≡ m → m.count ≡ k.count → HomeKept s k.count f (keeper (layout k.count) s got m) → HomeOf s f got k'
+at_count s f got k k' m is count h = rw is (subst (λ c. HomeKept s c f (keeper (layout c) s got m)) (sym count) h)
 
-module _ (s : Side) (f : ℕ → Bool) (got : List (List ℕ)) (k k' : Kept) (p : List ℕ) (some : k.count ≢ 0) (long : length k.owners ≡ k.count) (h : HomeOf s f got k) where
-  module _ (is : k' ≡ pages_sent (layout k.count) k p) where
-    count : k'.count ≡ k.count
-    count = ap (λ x. x.count) is ∙ (sent_pages k.count k p some).count
-
-    asked : (kind_of p == 11) ≡ false → f (id_of p) ≡ false → LendsItsOwn (layout k.count) s p → HomeOf s (opened f (id_of p)) got k'
-    asked a b own = at_count s (opened f (id_of p)) got k k' _ is count (keeps_ask (layout k.count) s f got k (listed k some long) h p a b own)
-
-    said : (kind_of p == 11) ≡ false → id_of p ≡ 0 → (layout k.count).lends p ≡ None → HomeOf s f got k'
-    said a b none = at_count s f got k k' _ is count (keeps_said (layout k.count) s f got k (listed k some long) h p a b none)
-
-    ended : (kind_of p == 11) ≡ true → HomeOf s f got k'
-    ended a = at_count s f got k k' _ is count (keeps_given (layout k.count) s f got k (listed k some long) h p a)
-
-  module _ (is : k' ≡ pages_took (layout k.count) k p) where
-    took_count : k'.count ≡ k.count
-    took_count = ap (λ x. x.count) is ∙ (took_pages k.count k p some).count
-
-    taken : (b : Bool) → (kind_of p == 11) ≡ b → HomeOf s (cond b (closed f (id_of p)) f) (got ++ p ∷ []) k'
-    taken true e = at_count s (closed f (id_of p)) (got ++ p ∷ []) k k' _ is took_count (keeps_back (layout k.count) s f got k (listed k some long) h p e)
-    taken false e = at_count s f (got ++ p ∷ []) k k' _ is took_count (keeps_taken (layout k.count) s f got k (listed k some long) h p e)
+taken : (s : Side) (f : ℕ → Bool) (got : List (List ℕ)) (k k' : Kept) (p : List ℕ) (some : k.count ≢ 0) → length k.owners ≡ k.count → HomeOf s f got k → k' ≡ pages_took (layout k.count) k p → (b : Bool) → (kind_of p == 11) ≡ b
+    → HomeOf s (cond b (closed f (id_of p)) f) (got ++ p ∷ []) k'
+taken s f got k k' p some long h is true e = at_count s (closed f (id_of p)) (got ++ p ∷ []) k k' _ is (took_pages k.count k p some).count (keeps_back (layout k.count) s f got k (listed k some long) h p e)
+taken s f got k k' p some long h is false e = at_count s f (got ++ p ∷ []) k k' _ is (took_pages k.count k p some).count (keeps_taken (layout k.count) s f got k (listed k some long) h p e)
 
 -- a take, and the loads behind it
 pub home_taken : (old new : EndState) (mid : Kept) (p : List ℕ) → length old.pages.owners ≡ old.pages.count → mid ≡ pages_took (layout old.pages.count) old.pages p
@@ -92,33 +74,23 @@ module _ (old new : EndState) (l : Kept) (p ws : List ℕ) (laid_is : Stored old
   unsent : new.pages ≡ l → KeepsHome old new
   unsent is = λ f h some. to_new f (subst (HomeOf old.machine.side f old.got) (sym is) (at_l f (λ z. some (ap (λ x. x.count) is ∙ z)) h))
 
-  module _ (is : new.pages ≡ pages_sent (layout l.count) l p) where
-    l_some : new.pages.count ≢ 0 → l.count ≢ 0
-    l_some some z =
-        some (ap (λ (x : Kept). x.count) is ∙ (ap (λ (x : Kept). x.count) (first_of (l.count == 0) l (cond (kind_of p == 11) (gives_back l p (first_page (is_held (id_of p)) 0 l.owners)) (lends_out l p ((layout l.count).lends p))) (is_zero l.count z)) ∙ z))
+  module _ (is : new.pages ≡ pages_sent (layout l.count) l p) (some : new.pages.count ≢ 0) where
+    l_some : l.count ≢ 0
+    l_some z = some (ap (λ (x : Kept). x.count) is ∙ (ap (λ (x : Kept). x.count) (first_of (l.count == 0) l _ (is_zero l.count z)) ∙ z))
 
-    sends_asks : (f : ℕ → Bool) → (kind_of p == 11) ≡ false → f (id_of p) ≡ false → LendsItsOwn (layout old.pages.count) old.machine.side p → HasHome f old → HasHome (opened f (id_of p)) new
-    sends_asks f a b own h = λ some.
-        let more = l_some some in
-        to_new _ (asked old.machine.side f old.got l new.pages p more l_long (at_l f more h) is a b (subst (λ c. LendsItsOwn (layout c) old.machine.side p) (sym laid_is.count) own))
-
-    sends_says : (f : ℕ → Bool) → (kind_of p == 11) ≡ false → id_of p ≡ 0 → (layout old.pages.count).lends p ≡ None → HasHome f old → HasHome f new
-    sends_says f a b none h = λ some.
-        let more = l_some some in
-        to_new f (said old.machine.side f old.got l new.pages p more l_long (at_l f more h) is a b (subst (λ c. (layout c).lends p ≡ None) (sym laid_is.count) none))
-
-    sends_ends : (f : ℕ → Bool) → (kind_of p == 11) ≡ true → HasHome f old → HasHome f new
-    sends_ends f a h = λ some.
-        let more = l_some some in
-        to_new f (ended old.machine.side f old.got l new.pages p more l_long (at_l f more h) is a)
+    -- a law of the pages of such an end, behind the stores
+    sends : (f f' : ℕ → Bool) → HasHome f old → (IsListed (layout l.count) l → HomeOf old.machine.side f old.got l → HomeKept old.machine.side l.count f' (keeper (layout l.count) old.machine.side old.got (pages_sent (layout l.count) l p))) → HomeOf new.machine.side f' new.got new.pages
+    sends f f' h keeps = to_new f' (at_count old.machine.side f' old.got l new.pages _ is (sent_pages l.count l p l_some).count (keeps (listed l l_some l_long) (at_l f l_some h)))
 
   pub home_sent : (how : Tried) (b : Bool) → (how ≡ TriedSent → b ≡ true) → ((how ≡ TriedSent → ⊥) → b ≡ false) → new.pages ≡ cond b (pages_sent (layout l.count) l p) l → SendsHome how p old new
-  home_sent TriedSent true went stays is = record { asks = sends_asks is; says = sends_says is; ends = sends_ends is }
-  home_sent TriedSent false went stays is = absurd (let t : false ≡ true = went refl in cc)
-  home_sent TriedFull true went stays is = absurd (let t : true ≡ false = stays (λ e. absurd (cc)) in cc)
-  home_sent TriedFull false went stays is = record { asks = λ f a b own h. unsent is f h; says = λ f a b none h. unsent is f h; ends = λ f a h. unsent is f h }
-  home_sent TriedBroken true went stays is = absurd (let t : true ≡ false = stays (λ e. absurd (cc)) in cc)
-  home_sent TriedBroken false went stays is = record { asks = λ f a b own h. unsent is f h; says = λ f a b none h. unsent is f h; ends = λ f a h. unsent is f h }
+  home_sent TriedSent true went stays is = let s = old.machine.side in record {
+    asks = λ f a b own h some. sends is some f (opened f (id_of p)) h (λ k m. keeps_ask (layout l.count) s f old.got l k m p a b (subst (λ c. LendsItsOwn (layout c) s p) (sym laid_is.count) own));
+    says = λ f a b none h some. sends is some f f h (λ k m. keeps_said (layout l.count) s f old.got l k m p a b (subst (λ c. (layout c).lends p ≡ None) (sym laid_is.count) none));
+    ends = λ f a h some. sends is some f f h (λ k m. keeps_given (layout l.count) s f old.got l k m p a);
+  }
+  home_sent TriedSent false went stays is = cc (went refl)
+  home_sent _ true went stays is = cc (stays (λ e. cc))
+  home_sent _ false went stays is = record { asks = λ f a b own h. unsent is f h; says = λ f a b none h. unsent is f h; ends = λ f a h. unsent is f h }
 
 -- a call that keeps the lists and the pages
 pub quiet_home : {S : Type 0} (old new : Seen S) → SeenKept old new → new.state.machine.side ≡ old.state.machine.side → KeepsHome old.state new.state

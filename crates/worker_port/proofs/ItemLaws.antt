@@ -1,9 +1,11 @@
 -- What an end did, in items as they are read.
 use Rattle.std.proofs.Common.{◌≡◌, ℕ, zero, suc, ◌<◌, ◌≤◌, ◌==◌, ◌⊎◌, inl, inr, Bool, true, false, List, [], ◌∷◌, ◌++◌, length, get_or, refl, sym, ap, ◌∙◌, subst, arith, length-append, Option, Some}
+use Rattle.std.proofs.lemmas.List.{map_push}
+use Rattle.ring_loan_rule.proofs.Counts.{packets_append}
 use Rattle.std.specs.Prelude.{map, slice_get, Result}
 use Rattle.channel_trace.specs.declared.event.Event.{Event}
 use Rattle.channel_trace.specs.declared.event.Event.TheVariants.{Sent, Got, Empty, Marked, Saw}
-use Rattle.channel_trace.specs.Filled.{IsFilledBy, thing_at, filled}
+use Rattle.channel_trace.specs.Filled.{IsFilledBy, filled}
 use Rattle.channel_trace.specs.Runs.{sent_of, got_of, has_marked}
 use Rattle.channel_trace.proofs.Filling.{all_got, marked_filled}
 use Rattle.page_kept.specs.declared.item.Item.{Item}
@@ -22,14 +24,14 @@ use Rattle.ring_machine.specs.EndCalls.{Arm, Mark, Poll, Send}
 use Rattle.ring_machine.specs.Endings.{is_asleep, is_dozed, send_answer}
 use Rattle.ring_machine.specs.States.{past_of}
 use Rattle.ring_machine.specs.Steps.{call_by, is_sent}
-use Rattle.ring_core.specs.Seen.{Seen}
+use Rattle.ring_core.specs.Seen.{Kept, Seen}
 use Rattle.ring_core.specs.declared.told.Told.{Told}
 use Rattle.worker_port.specs.declared.found.Found.{Found}
 use Rattle.worker_port.specs.declared.found.Found.TheVariants.{Packet as FoundPacket, Nothing as FoundNothing, Broken as FoundBroken}
 use Rattle.ring_core.specs.Laying.{laid}
 use Rattle.ring_core.specs.Pages.{last_words}
 use Rattle.ring_core.proofs.Paging.{first_of}
-use Rattle.worker_port.specs.Line.{IsLine, Line, got_as, item_sent, look_of, looked, past_as, past_tried, tried_of, whole, words_at, words_sent}
+use Rattle.worker_port.specs.Line.{IsLine, Line, got_as, item_sent, line_of, look_of, looked, past_as, past_tried, tried_of, whole, words_at, words_sent}
 use Rattle.worker_port.proofs.PageLaws.{by_count, is_zero}
 
 -- the things before one that comes behind, and that one
@@ -40,9 +42,8 @@ front_thing (t ∷ ts) x (suc n) d h = front_thing ts x n d (omega (arith, h))
 
 last_thing : {Q : Type 0} (things : List Q) (x d : Q) (n : ℕ) → n ≡ length things → get_or (things ++ x ∷ []) n d ≡ x
 last_thing [] x d zero e = refl
-last_thing [] x d (suc n) e = absurd (omega (arith, e))
-last_thing (t ∷ ts) x d zero e = absurd (omega (arith, e))
 last_thing (t ∷ ts) x d (suc n) e = last_thing ts x d n (omega (arith, e))
+last_thing _ x d _ e = absurd (omega (arith, e))
 
 -- with one more thing behind, the events before are the same
 module _ {P Q : Type 0} (plain : P → Q) where
@@ -51,20 +52,14 @@ module _ {P Q : Type 0} (plain : P → Q) where
   sent_behind s g x (Sent p ∷ past) h =
       let n = length-append (sent_of past) (p ∷ []) in
       (λ i. Sent (front_thing s x (length (sent_of past)) (plain p) (omega (arith, h, n)) i) ∷ sent_behind s g x past (omega (arith, h, n)) i)
-  sent_behind s g x (Got p ∷ past) h = ap (λ (l : List (Event Q)). Got (thing_at plain g (length (got_of past)) p) ∷ l) (sent_behind s g x past h)
-  sent_behind s g x (Empty ∷ past) h = ap (λ (l : List (Event Q)). Empty ∷ l) (sent_behind s g x past h)
-  sent_behind s g x (Marked ∷ past) h = ap (λ (l : List (Event Q)). Marked ∷ l) (sent_behind s g x past h)
-  sent_behind s g x (Saw ∷ past) h = ap (λ (l : List (Event Q)). Saw ∷ l) (sent_behind s g x past h)
+  sent_behind s g x (_ ∷ past) h = cc (sent_behind s g x past h)
 
   got_behind : (s g : List Q) (x : Q) (past : List (Event P)) → length (got_of past) ≤ length g → filled plain s (g ++ x ∷ []) past ≡ filled plain s g past
   got_behind s g x [] h = refl
-  got_behind s g x (Sent p ∷ past) h = ap (λ (l : List (Event Q)). Sent (thing_at plain s (length (sent_of past)) p) ∷ l) (got_behind s g x past h)
   got_behind s g x (Got p ∷ past) h =
       let n = length-append (got_of past) (p ∷ []) in
       (λ i. Got (front_thing g x (length (got_of past)) (plain p) (omega (arith, h, n)) i) ∷ got_behind s g x past (omega (arith, h, n)) i)
-  got_behind s g x (Empty ∷ past) h = ap (λ (l : List (Event Q)). Empty ∷ l) (got_behind s g x past h)
-  got_behind s g x (Marked ∷ past) h = ap (λ (l : List (Event Q)). Marked ∷ l) (got_behind s g x past h)
-  got_behind s g x (Saw ∷ past) h = ap (λ (l : List (Event Q)). Saw ∷ l) (got_behind s g x past h)
+  got_behind s g x (_ ∷ past) h = cc (got_behind s g x past h)
 
   sent_next : (s g : List Q) (x : Q) (p : P) (past : List (Event P)) → length (sent_of past) ≡ length s → filled plain (s ++ x ∷ []) g (Sent p ∷ past) ≡ Sent x ∷ filled plain s g past
   sent_next s g x p past e = (λ i. Sent (last_thing s x (plain p) (length (sent_of past)) e i) ∷ sent_behind s g x past (omega (arith, e)) i)
@@ -84,10 +79,9 @@ Along [] (i ∷ is) = ⊥
 Along (p ∷ ps) (i ∷ is) = (i.packet ≡ p) × Along ps is
 
 pub along_by : (ps : List (List ℕ)) (is : List Item) → packets is ≡ ps → Along ps is
-along_by [] [] e = tt
-along_by (p ∷ ps) [] e = tt
-along_by [] (i ∷ is) e = absurd (cc)
-along_by (p ∷ ps) (i ∷ is) e = let here : i.packet ≡ p = cc in let rest : packets is ≡ ps = cc in (here, along_by ps is rest)
+along_by ps [] e = tt
+along_by [] (i ∷ is) e = cc
+along_by (p ∷ ps) (i ∷ is) e = (cc, along_by ps is (cc))
 
 pub packets_along : (ps : List (List ℕ)) (is : List Item) → Along ps is → packets (whole ps is) ≡ ps
 packets_along [] [] e = refl
@@ -103,9 +97,9 @@ pub whole_items : (is : List Item) → whole (packets is) is ≡ is
 whole_items [] = refl
 whole_items (i ∷ is) = ap (λ (l : List Item). i ∷ l) (whole_items is)
 
-packets_more : (is : List Item) (p ws : List ℕ) → packets (is ++ item_of p ws ∷ []) ≡ packets is ++ p ∷ []
-packets_more [] p ws = refl
-packets_more (i ∷ is) p ws = ap (λ (l : List (List ℕ)). i.packet ∷ l) (packets_more is p ws)
+pub none_append : (xs ys : List (List ℕ)) → whole (xs ++ ys) [] ≡ whole xs [] ++ whole ys []
+none_append [] ys = refl
+none_append (x ∷ xs) ys = cc (none_append xs ys)
 
 -- a packet with these page words stands last, in a list of packets and in that of the items: there are none, or one for each
 pub record Grows (ps ps' : List (List ℕ)) (is is' : List Item) (p ws : List ℕ) : Type 0 where
@@ -118,26 +112,14 @@ module _ (f : Item → Item) where
   whole_long (q ∷ ps) [] = ap suc (whole_long ps [])
   whole_long (q ∷ ps) (i ∷ is) = ap suc (whole_long ps is)
 
-  none_more : (ps : List (List ℕ)) (p : List ℕ) → map f (whole (ps ++ p ∷ []) []) ≡ map f (whole ps []) ++ f (item_of p []) ∷ []
-  none_more [] p = refl
-  none_more (q ∷ ps) p = ap (λ (l : List Item). f (item_of q []) ∷ l) (none_more ps p)
-
-  map_more : (is : List Item) (i : Item) → map f (is ++ i ∷ []) ≡ map f is ++ f i ∷ []
-  map_more [] i = refl
-  map_more (j ∷ is) i = ap (λ (l : List Item). f j ∷ l) (map_more is i)
-
   pub whole_more : (ps ps' : List (List ℕ)) (is is' : List Item) (p ws : List ℕ) → Grows ps ps' is is' p ws → map f (whole ps' is') ≡ map f (whole ps is) ++ f (item_of p ws) ∷ []
   whole_more ps ps' is is' p ws g = by g.items
     where
       by : ((is ≡ []) × (is' ≡ []) × (ws ≡ [])) ⊎ ((packets is ≡ ps) × (is' ≡ is ++ item_of p ws ∷ [])) → map f (whole ps' is') ≡ map f (whole ps is) ++ f (item_of p ws) ∷ []
-      by (inl none) =
-          (λ j. map f (whole (g.list j) (none.1 j)))
-          ∙ (none_more ps p ∙ (λ j. map f (whole ps (sym none.0 j)) ++ f (item_of p (sym none.2 j)) ∷ []))
+      by (inl none) = cc (g.list, none.0, none.1, none.2, none_append ps (p ∷ []), map_push f (whole ps []) (item_of p []))
       by (inr more) =
-          let new : packets (is ++ item_of p ws ∷ []) ≡ ps' = packets_more is p ws ∙ (ap (λ (l : List (List ℕ)). l ++ p ∷ []) more.0 ∙ sym g.list) in
-          (λ j. map f (whole (sym new j) (more.1 j)))
-          ∙ (ap (map f) (whole_items (is ++ item_of p ws ∷ []))
-          ∙ (map_more is (item_of p ws) ∙ ap (λ (l : List Item). map f l ++ f (item_of p ws) ∷ []) (sym (whole_items is) ∙ ap (λ (l : List (List ℕ)). whole l is) more.0)))
+          let new : packets (is ++ item_of p ws ∷ []) ≡ ps' = packets_append is (item_of p ws ∷ []) ∙ (ap (λ (l : List (List ℕ)). l ++ p ∷ []) more.0 ∙ sym g.list) in
+          cc (new, more.0, more.1, whole_items is, whole_items (is ++ item_of p ws ∷ []), map_push f is (item_of p ws))
 
   pub whole_at : (ps : List (List ℕ)) (is : List Item) (i : ℕ) (p : List ℕ) → Along ps is → slice_get ps i ≡ Some p → slice_get (map f (whole ps is)) i ≡ Some (f (item_of p (words_at is i)))
   unfolding words_at
@@ -155,10 +137,10 @@ module _ (f : Item → Item) where
   unfolding got_as
   line_long e = whole_long e.got e.pages.got
 
-  -- what a call leaves that sent and got nothing, maybe behind page words that it stored
-  pub past_kept : (old new : EndState) → new.past ≡ old.past → new.sent ≡ old.sent → new.got ≡ old.got → new.pages.sent ≡ old.pages.sent → new.pages.got ≡ old.pages.got → past_as f new ≡ past_as f old
+  -- what a call leaves that sent and got nothing, maybe behind page words that it stored, and whose past is this
+  past_by : (old new : EndState) (past : List (Event (List ℕ))) → new.past ≡ past → new.sent ≡ old.sent → new.got ≡ old.got → new.pages.sent ≡ old.pages.sent → new.pages.got ≡ old.pages.got → past_as f new ≡ past_as f (record old { past = past })
   unfolding past_as
-  past_kept old new past sent got s g = (λ i. filled (λ p. f (item_of p [])) (map f (whole (sent i) (s i))) (map f (whole (got i) (g i))) (past i))
+  past_by old new past is sent got s g = (λ i. filled (λ p. f (item_of p [])) (map f (whole (sent i) (s i))) (map f (whole (got i) (g i))) (is i))
 
   pub got_kept : (old new : EndState) → new.got ≡ old.got → new.pages.got ≡ old.pages.got → got_as f new ≡ got_as f old
   unfolding got_as
@@ -168,26 +150,16 @@ module _ (f : Item → Item) where
   unfolding past_as
   line_marked e = marked_filled (λ p. f (item_of p [])) e.past (map f (whole e.sent e.pages.sent)) (map f (whole e.got e.pages.got))
 
-  -- what a call that sent and got nothing leaves
+  -- and of the pages too
+  past_then : (old new : EndState) (past : List (Event (List ℕ))) → new.past ≡ past → new.sent ≡ old.sent → new.got ≡ old.got → new.pages ≡ old.pages → past_as f new ≡ past_as f (record old { past = past })
+  past_then old new past is sent got pages = past_by old new past is sent got (ap (λ k. k.sent) pages) (ap (λ k. k.got) pages)
+
   pub past_same : (old new : EndState) → new.past ≡ old.past → new.sent ≡ old.sent → new.got ≡ old.got → new.pages ≡ old.pages → past_as f new ≡ past_as f old
-  unfolding past_as
-  past_same old new past sent got pages = (λ i. filled (λ p. f (item_of p [])) (map f (whole (sent i) (pages i).sent)) (map f (whole (got i) (pages i).got)) (past i))
+  past_same old new past sent got pages = past_then old new old.past past sent got pages
 
   pub got_same_as : (old new : EndState) → new.got ≡ old.got → new.pages ≡ old.pages → got_as f new ≡ got_as f old
   unfolding got_as
   got_same_as old new got pages = (λ i. map f (whole (got i) (pages i).got))
-
-  pub past_empty : (old new : EndState) → new.past ≡ Empty ∷ old.past → new.sent ≡ old.sent → new.got ≡ old.got → new.pages ≡ old.pages → past_as f new ≡ Empty ∷ past_as f old
-  unfolding past_as
-  past_empty old new past sent got pages = (λ i. filled (λ p. f (item_of p [])) (map f (whole (sent i) (pages i).sent)) (map f (whole (got i) (pages i).got)) (past i))
-
-  pub past_marked : (old new : EndState) → new.past ≡ Marked ∷ old.past → new.sent ≡ old.sent → new.got ≡ old.got → new.pages ≡ old.pages → past_as f new ≡ Marked ∷ past_as f old
-  unfolding past_as
-  past_marked old new past sent got pages = (λ i. filled (λ p. f (item_of p [])) (map f (whole (sent i) (pages i).sent)) (map f (whole (got i) (pages i).got)) (past i))
-
-  pub past_saw : (old new : EndState) → new.past ≡ Saw ∷ old.past → new.sent ≡ old.sent → new.got ≡ old.got → new.pages ≡ old.pages → past_as f new ≡ Saw ∷ past_as f old
-  unfolding past_as
-  past_saw old new past sent got pages = (λ i. filled (λ p. f (item_of p [])) (map f (whole (sent i) (pages i).sent)) (map f (whole (got i) (pages i).got)) (past i))
 
   -- a new end did nothing
   pub past_new : (e : EndState) → e.past ≡ [] → past_as f e ≡ []
@@ -201,12 +173,11 @@ module _ (f : Item → Item) where
   -- an arm, by what it found
   pub arm_past : (old new : EndState) (how : Ending) (found : Armed) (saw : Bool) → call_by how ≡ Arm → is_asleep found ≡ is_dozed how → new.past ≡ past_of how saw [] old.past → new.sent ≡ old.sent → new.got ≡ old.got → new.pages ≡ old.pages
       → past_as f new ≡ looked (look_of found saw) (past_as f old)
+  unfolding past_as
   arm_past old new FellAsleep Asleep saw call is past sent got pages = past_same old new past sent got pages
-  arm_past old new FellAsleep Work saw call is past sent got pages = absurd (cc)
-  arm_past old new FoundWork Asleep saw call is past sent got pages = absurd (cc)
-  arm_past old new FoundWork Work true call is past sent got pages = past_saw old new past sent got pages
+  arm_past old new FoundWork Work true call is past sent got pages = past_then old new (Saw ∷ old.past) past sent got pages
   arm_past old new FoundWork Work false call is past sent got pages = past_same old new past sent got pages
-  arm_past old new _ found saw call is past sent got pages = absurd (cc)
+  arm_past old new _ found saw call is past sent got pages = grind (arith, call, is)
 
   pub poll_past : (old new : EndState) (how : Ending) (saw : Bool) → call_by how ≡ Poll → new.past ≡ past_of how saw [] old.past → new.sent ≡ old.sent → new.got ≡ old.got → new.pages ≡ old.pages → past_as f new ≡ past_as f old
   poll_past old new NoSignal saw call past sent got pages = past_same old new past sent got pages
@@ -214,14 +185,16 @@ module _ (f : Item → Item) where
   poll_past old new _ saw call past sent got pages = absurd (cc)
 
   pub mark_past : (old new : EndState) (how : Ending) (saw : Bool) → call_by how ≡ Mark → new.past ≡ past_of how saw [] old.past → new.sent ≡ old.sent → new.got ≡ old.got → new.pages ≡ old.pages → past_as f new ≡ Marked ∷ past_as f old
-  mark_past old new EndedMarked saw call past sent got pages = past_marked old new past sent got pages
+  unfolding past_as
+  mark_past old new EndedMarked saw call past sent got pages = past_then old new (Marked ∷ old.past) past sent got pages
   mark_past old new _ saw call past sent got pages = absurd (cc)
 
   -- a take that took nothing, by what it found
   pub past_finds : (found : Found) (old new : EndState) → (found ≡ FoundPacket → ⊥) → new.past ≡ found_past found old.past → new.sent ≡ old.sent → new.got ≡ old.got → new.pages ≡ old.pages
       → past_as f new ≡ found_past found (past_as f old)
+  unfolding past_as
   past_finds FoundPacket old new not past sent got pages = absurd (not refl)
-  past_finds FoundNothing old new not past sent got pages = past_empty old new past sent got pages
+  past_finds FoundNothing old new not past sent got pages = past_then old new (Empty ∷ old.past) past sent got pages
   past_finds FoundBroken old new not past sent got pages = past_same old new past sent got pages
 
 -- a packet with these page words was sent, or none was
@@ -248,6 +221,9 @@ module _ {S : Type 0} {told : S → Option Told} (f : Item → Item) where
   unfolding past_as got_as
   line_got e h = all_got (λ p. f (item_of p [])) e.state.past (map f (whole e.state.sent e.state.pages.sent)) (map f (whole e.state.got e.state.pages.got)) (line_filled e h)
 
+  pub got_view : (e : Seen S) (now : Line S) → line_of f e ≡ now → IsLine told e → got_of now.state.past ≡ now.state.got
+  got_view e now view h = subst (λ (x : Line _). got_of x.state.past ≡ x.state.got) view (line_got e h)
+
   -- one packet more, that was sent or got
   pub past_sent : (old new : Seen S) (p ws : List ℕ) → IsLine told old → new.state.past ≡ Sent p ∷ old.state.past → Grows old.state.sent new.state.sent old.state.pages.sent new.state.pages.sent p ws → new.state.got ≡ old.state.got
       → new.state.pages.got ≡ old.state.pages.got → past_as f new.state ≡ Sent (f (item_of p ws)) ∷ past_as f old.state
@@ -267,17 +243,23 @@ module _ {S : Type 0} {told : S → Option Told} (f : Item → Item) where
   module _ (old new : Seen S) (p ws : List ℕ) (h : IsLine told old) (got : new.state.got ≡ old.state.got) (items : new.state.pages.got ≡ old.state.pages.got) where
     send_by : (how : Ending) (m : EndMachine) (r : Result Signalled SendRefusal) (saw : Bool) → call_by how ≡ Send → r ≡ send_answer how m → new.state.past ≡ past_of how saw p old.state.past → SentAs old new p ws (is_sent how)
         → past_as f new.state ≡ past_tried (tried_of r) (f (item_of p ws)) (past_as f old.state)
-    send_by SentQuiet m r saw call is past sent = past_sent old new p ws h past sent got items ∙ sym (ap (λ (x : Result Signalled SendRefusal). past_tried (tried_of x) (f (item_of p ws)) (past_as f old.state)) is)
-    send_by SentRaised m r saw call is past sent = past_sent old new p ws h past sent got items ∙ sym (ap (λ (x : Result Signalled SendRefusal). past_tried (tried_of x) (f (item_of p ws)) (past_as f old.state)) is)
-    send_by Full m r saw call is past sent =
-        past_kept f old.state new.state past sent.0 got sent.1 items ∙ sym (ap (λ (x : Result Signalled SendRefusal). past_tried (tried_of x) (f (item_of p ws)) (past_as f old.state)) is)
-    send_by BadPeer m r saw call is past sent =
-        past_kept f old.state new.state past sent.0 got sent.1 items ∙ sym (ap (λ (x : Result Signalled SendRefusal). past_tried (tried_of x) (f (item_of p ws)) (past_as f old.state)) is)
+    send_by SentQuiet m r saw call is past sent = rw is (past_sent old new p ws h past sent got items)
+    send_by SentRaised m r saw call is past sent = rw is (past_sent old new p ws h past sent got items)
+    send_by Full m r saw call is past sent = rw is (past_by f old.state new.state old.state.past past sent.0 got sent.1 items)
+    send_by BadPeer m r saw call is past sent = rw is (past_by f old.state new.state old.state.past past sent.0 got sent.1 items)
     send_by _ m r saw call is past sent = absurd (cc)
 
     pub send_past : (r : Result Signalled SendRefusal) → call_by new.state.machine.ended ≡ Send → r ≡ send_answer new.state.machine.ended new.state.machine → new.state.past ≡ past_of new.state.machine.ended new.state.machine.saw p old.state.past
         → SentAs old new p ws (is_sent new.state.machine.ended) → past_as f new.state ≡ past_tried (tried_of r) (f (item_of p ws)) (past_as f old.state)
     send_past r call is past sent = send_by new.state.machine.ended new.state.machine r new.state.machine.saw call is past sent
+
+-- what a call leaves of the lists that keeps them and the pages
+pub quiet_lists : {S : Type 0} (f : Item → Item) (old new : Seen S) (e : Line S) → line_of f old ≡ e → Kept old new → (got_as f new.state ≡ e.state.got) × (new.spare_got ≡ e.spare_got) × (new.spare_sent ≡ e.spare_sent)
+quiet_lists f old new e view kept = (
+  got_same_as f old.state new.state kept.got kept.pages ∙ ap (λ (x : Line _). x.state.got) view,
+  kept.spare_got ∙ ap (λ (x : Line _). x.spare_got) view,
+  kept.spare_sent ∙ ap (λ (x : Line _). x.spare_sent) view,
+)
 
 -- what a send keeps
 pub item_sent_is : {S : Type 0} (e : Line S) (p words : List ℕ) → item_sent e p words ≡ item_of p (words_sent e.end.state.pages p words)

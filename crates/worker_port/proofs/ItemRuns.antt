@@ -1,5 +1,6 @@
 -- The run of two ends, in items as they are read.
-use Rattle.std.proofs.Common.{◌≡◌, ℕ, List, [], ◌∷◌, ◌++◌, map, refl, sym, ap, ◌∙◌, subst, Option}
+use Rattle.std.proofs.Common.{◌≡◌, ℕ, List, [], map, sym, ap, ◌∙◌, subst, Option}
+use Rattle.std.proofs.lemmas.List.{map-append}
 use Rattle.page_kept.specs.declared.item.Item.{Item}
 use Rattle.page_kept.specs.Items.{item_of, packets}
 use Rattle.channel_trace.specs.Laws.{AreOfOneRun}
@@ -9,19 +10,10 @@ use Rattle.channel_model.proofs.Runs.{guest_front, host_front}
 use Rattle.ring_core.specs.Seen.{Seen}
 use Rattle.ring_core.specs.declared.told.Told.{Told}
 use Rattle.worker_port.specs.Line.{GotItems, IsLine, past_as, whole}
-use Rattle.worker_port.proofs.ItemLaws.{items_along, line_filled, packets_along, whole_items, whole_none}
+use Rattle.worker_port.proofs.ItemLaws.{items_along, line_filled, none_append, packets_along, whole_items, whole_none}
 
-module _ (f : Item → Item) where
-  map_append : (xs ys : List Item) → map f (xs ++ ys) ≡ map f xs ++ map f ys
-  map_append [] ys = refl
-  map_append (x ∷ xs) ys = ap (λ (l : List Item). f x ∷ l) (map_append xs ys)
-
-  map_front : (xs ys : List Item) → IsFront xs ys → IsFront (map f xs) (map f ys)
-  map_front xs ys front = (map f front.0, ap (map f) front.1 ∙ map_append xs front.0)
-
-none_append : (xs ys : List (List ℕ)) → whole (xs ++ ys) [] ≡ whole xs [] ++ whole ys []
-none_append [] ys = refl
-none_append (x ∷ xs) ys = ap (λ (l : List Item). item_of x [] ∷ l) (none_append xs ys)
+map_front : (f : Item → Item) (xs ys : List Item) → IsFront xs ys → IsFront (map f xs) (map f ys)
+map_front f xs ys front = (map f front.0, ap (map f) front.1 ∙ map-append f xs front.0)
 
 module _ {S : Type 0} {told : S → Option Told} (f : Item → Item) where
   pub items_run : (guest host : Seen S) → IsLine told guest → IsLine told host → AreOfOneRun guest.state.past host.state.past → GotItems guest.state host.state → GotItems host.state guest.state → AreOfOneRun (past_as f guest.state) (past_as f host.state)

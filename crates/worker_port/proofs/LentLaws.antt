@@ -1,6 +1,5 @@
 -- The page words that a packet says that it lends, and those that go along with it.
-use Rattle.std.proofs.Common.{◌≡◌, ℕ, ◌+◌, ◌-◌, ◌<◌, ◌≤◌, ◌==◌, Bool, true, false, cond, List, [], ◌++◌, length, replicate, Option, Some, None, refl, sym, ap, ◌∙◌, subst, arith, length-append}
-use Rattle.std.specs.Prelude.{ltb}
+use Rattle.std.proofs.Common.{◌≡◌, ℕ, ◌+◌, ◌-◌, ◌<◌, ◌≤◌, ◌==◌, false, List, [], ◌++◌, length, replicate, Option, Some, None, refl, sym, ap, ◌∙◌, subst, arith, length-append}
 use Rattle.std.proofs.Math.Seq.{take-append_seam}
 use Rattle.std.proofs.lemmas.List.{length-replicate}
 use Rattle.std.proofs.lemmas.Bool.Decides.{nat_tests}
@@ -12,27 +11,23 @@ use Rattle.io_edge.specs.declared.side.Side.{Side}
 use Rattle.page_kept.specs.declared.item.Item.{Item}
 use Rattle.page_kept.specs.Items.{item_of, values}
 use Rattle.page_kept.specs.declared.kept.Kept.{Kept}
-use Rattle.page_kept.specs.Kept.{copy_in, first_page, gives_back, is_held, lends_out, pages_sent}
+use Rattle.page_kept.specs.Kept.{copy_in, lends_out}
 use Rattle.page_kept.specs.Layouts.{Loan, layout, loan_in}
 use Rattle.page_home_laws.specs.Home.{LendsItsOwn, first_of as first_page_of}
 use Rattle.channel_protocol.specs.Paged.{Lays, lent_len, words_lent}
 use Rattle.ring_core.specs.Pages.{along, last_words}
-use Rattle.ring_core.proofs.Paging.{last_more, none_along, other_of, values_long}
+use Rattle.ring_core.proofs.Paging.{last_more, none_along, values_long}
 use Rattle.worker_port.specs.Owed.{LaysOn, Written}
 use Rattle.worker_port.proofs.PageLaws.{by_count, is_more}
 
 -- what lies in a page of the channel is lent
 loan_here : (c : ℕ) (l : LentBytes) → l.page < c → loan_in c (Some l) ≡ Some record { page = l.page; words = words_for l.bytes }
-loan_here c l within = let t : ltb l.page c ≡ true = grind (arith, nat_tests, within) in ap (λ b. cond b (Some record { page = l.page; words = words_for l.bytes }) None) t
-
-loan_if : (b : Bool) (l : LentBytes) (a : Loan) → cond b (Some record { page = l.page; words = words_for l.bytes }) None ≡ Some a → a.page ≡ l.page
-loan_if true l a e = let same : record { page = l.page; words = words_for l.bytes } ≡ a = cc in ap (λ (x : Loan). x.page) (sym same)
-loan_if false l a e = absurd (cc)
+loan_here c l within = grind (arith, nat_tests, within)
 
 -- what is lent in the channel the packet names
 pub loan_named : (c : ℕ) (o : Option LentBytes) (a : Loan) → loan_in c o ≡ Some a → (l : LentBytes) × (o ≡ Some l) × (a.page ≡ l.page)
-loan_named c None a e = absurd (cc)
-loan_named c (Some l) a e = (l, refl, loan_if (ltb l.page c) l a e)
+loan_named c None a e = cc
+loan_named c (Some l) a e = (l, refl, grind (arith, nat_tests, e))
 
 -- a request that names the page of its id or none lends its own
 pub lends_own : (c : ℕ) (x : Side) (p : List ℕ) → ((l : LentBytes) → lent_of p ≡ Some l → (1 ≤ id_of p) × (id_of p ≤ 64) × (l.page + 1 ≡ first_page_of x + id_of p)) → LendsItsOwn (layout c) x p
@@ -54,12 +49,7 @@ none_named (Some l) h = absurd (omega (arith, h l refl))
 -- where the channel has the page that a packet names, as many words go along as it says
 pub along_lent : (k : Kept) (p : List ℕ) → (kind_of p == 11) ≡ false → ((l : LentBytes) → lent_of p ≡ Some l → l.page < k.count) → along k p ≡ words_lent p
 along_lent k p ask within =
-    by_count k.count (λ z. none_along k p z ∙ none_named (lent_of p) (λ l e. subst (λ n. l.page < n) z (within l e)))
-    (λ some.
-    other_of (k.count == 0) 0 (length (last_words (pages_sent (layout k.count) k p).sent)) (is_more k.count some)
-    ∙ (ap (λ (j : Kept). length (last_words j.sent)) (other_of (k.count == 0) k _ (is_more k.count some)
-    ∙ other_of (kind_of p == 11) (gives_back k p (first_page (is_held (id_of p)) 0 k.owners)) (lends_out k p ((layout k.count).lends p)) ask)
-    ∙ lent_out k p (lent_of p) within))
+    by_count k.count (λ z. none_along k p z ∙ none_named (lent_of p) (λ l e. subst (λ n. l.page < n) z (within l e))) (λ some. rw (is_more k.count some, ask) (lent_out k p (lent_of p) within))
 
 -- an item that is written there
 pub some_laid : (w : Written) → length w.words ≤ w.lent → LaysOn w (item_of w.packet (w.words ++ replicate (w.lent - length w.words) 0))

@@ -1,20 +1,19 @@
 -- What the calls of an end leave of its pages.
-use Rattle.std.proofs.Common.{◌≡◌, ◌≢◌, ℕ, zero, suc, ◌+◌, ◌*◌, ◌<◌, ◌≤◌, ◌==◌, ◌⊎◌, Bool, true, false, ltb, take, List, [], ◌∷◌, ◌++◌, length, get_or, set, Option, Some, None, refl, sym, ap, ◌∙◌, subst, arith, inl, inr}
+use Rattle.std.proofs.Common.{◌≡◌, ◌≢◌, ℕ, zero, suc, ◌+◌, ◌*◌, ◌<◌, ◌≤◌, ◌==◌, ◌⊎◌, true, false, take, List, [], ◌∷◌, ◌++◌, length, get_or, set, Option, Some, None, refl, sym, ap, ◌∙◌, subst, arith, inl, inr}
 use Rattle.std.specs.Prelude.{slice_index_or, is_some}
 use Rattle.std.proofs.lemmas.Bool.Decides.{nat_tests}
 use Rattle.std.proofs.lemmas.List.{length-set}
-use Rattle.page_kept.specs.declared.due.Due.{Due}
 use Rattle.page_kept.specs.declared.due.Due.TheVariants.{Clear, Loads as DueLoads}
 use Rattle.page_kept.specs.declared.item.Item.{Item}
 use Rattle.page_kept.specs.declared.kept.Kept.{Kept}
 use Rattle.page_kept.specs.declared.owner.Owner.{Owner}
 use Rattle.page_kept.specs.declared.owner.Owner.TheVariants.{Has, Lent, Held, Away}
 use Rattle.page_kept.specs.declared.page_call.PageCall.{PageCall}
-use Rattle.page_kept.specs.declared.page_call.PageCall.TheVariants.{Off, StoreWord, LoadWords}
+use Rattle.page_kept.specs.declared.page_call.PageCall.TheVariants.{LoadWords}
 use Rattle.page_kept.specs.Items.{item_of, values}
 use Rattle.page_kept.specs.Kept.{copy_in, first_page, gives_back, has_back, holds_now, is_held, is_lent, lends_out, lent_words, may_hold, pages_sent, pages_took, with_due, with_sent, with_took}
 use Rattle.page_kept.specs.Layouts.{Loan, layout}
-use Rattle.page_kept.specs.Stepped.{page_fed, page_loaded_at}
+use Rattle.page_kept.specs.Stepped.{page_fed}
 use Rattle.page_kept.proofs.Loans as loans
 use Rattle.pkt_desc.specs.Packets.{kind_of, id_of}
 use Rattle.ring_machine.specs.declared.state.EndState.{EndState}
@@ -32,53 +31,38 @@ use Rattle.ring_core.proofs.Paging.{first_of, last_more, newest_tail, none_along
 use Rattle.page_table.specs.Table.{part_in}
 use Rattle.worker_port.specs.Line.{AreFew, page_places, page_words, words_at}
 
-by_test : {P : Type 0} (b : Bool) → (b ≡ true → P) → (b ≡ false → P) → P
-by_test true t f = t refl
-by_test false t f = f refl
-
 pub is_zero : (n : ℕ) → n ≡ 0 → (n == 0) ≡ true
 is_zero n e = grind (arith, nat_tests, e)
 
 pub is_more : (n : ℕ) → n ≢ 0 → (n == 0) ≡ false
 is_more n e = grind (arith, nat_tests, e)
 
-zero_by : (n : ℕ) → (n == 0) ≡ true → n ≡ 0
-zero_by n e = grind (arith, nat_tests, e)
-
-pub more_by : (n : ℕ) → (n == 0) ≡ false → n ≢ 0
-more_by n e z = absurd (let t : true ≡ false = sym (is_zero n z) ∙ e in cc)
-
 -- either there are no pages, or there are some
 pub by_count : {P : Type 0} (n : ℕ) → (n ≡ 0 → P) → (n ≢ 0 → P) → P
-by_count n none some = by_test (n == 0) (λ t. none (zero_by n t)) (λ f. some (more_by n f))
+by_count zero none some = none refl
+by_count (suc n) none some = some (λ e. cc)
 
 -- the room for page words
 pub words_none : (c n : ℕ) → c ≡ 0 → page_words c n ≡ 0
 words_none c n e = ap (λ k. page_words k n) e
 
 pub words_some : (c n : ℕ) → c ≢ 0 → page_words c n ≡ 512 * n
-words_some zero n e = absurd (e refl)
-words_some (suc c) n e = refl
+words_some c n e = grind (arith, e)
 
 pub places_some : (c n : ℕ) → c ≢ 0 → page_places c n ≡ n
-places_some zero n e = absurd (e refl)
-places_some (suc c) n e = refl
+places_some c n e = grind (arith, e)
 
 pub words_next : (c n m : ℕ) → m ≡ n + 1 → page_words c m ≡ page_words c n + page_words c 1
-words_next zero n m e = refl
-words_next (suc c) n m e = omega (arith, e)
+words_next c n m e = grind (arith, e)
 
 pub places_next : (c n m : ℕ) → m ≡ n + 1 → page_places c m ≡ page_places c n + page_places c 1
-places_next zero n m e = refl
-places_next (suc c) n m e = omega (arith, e)
+places_next c n m e = grind (arith, e)
 
 pub words_mono : (c m n : ℕ) → m ≤ n → page_words c m ≤ page_words c n
-words_mono zero m n h = omega arith
-words_mono (suc c) m n h = omega (arith, h)
+words_mono c m n h = grind (arith, h)
 
 pub places_mono : (c m n : ℕ) → m ≤ n → page_places c m ≤ page_places c n
-places_mono zero m n h = omega arith
-places_mono (suc c) m n h = h
+places_mono c m n h = grind (arith, h)
 
 -- owners
 few_at : (os : List Owner) → AreFew os → (q : ℕ) → lent_words (get_or os q Away) ≤ 512
@@ -126,10 +110,8 @@ sent_out k p (Some a) inside =
 
 pub sent_pages : (c : ℕ) (k : Kept) (p : List ℕ) → k.count ≢ 0 → SentPages k (pages_sent (layout c) k p) p
 sent_pages c k p some =
-    at_cond (λ j. SentPages k j p) (k.count == 0) k _ (λ t. absurd (some (zero_by k.count t)))
-    (λ f.
-    at_cond (λ j. SentPages k j p) (kind_of p == 11) (gives_back k p (first_page (is_held (id_of p)) 0 k.owners)) (lends_out k p ((layout c).lends p)) (λ t. sent_back k p (first_page (is_held (id_of p)) 0 k.owners))
-    (λ f. sent_out k p ((layout c).lends p) (λ a e. (loans.fits c p a e).2)))
+    rw (is_more k.count some)
+    (at_cond (λ j. SentPages k j p) (kind_of p == 11) _ _ (λ t. sent_back k p (first_page (is_held (id_of p)) 0 k.owners)) (λ f. sent_out k p ((layout c).lends p) (λ a e. (loans.fits c p a e).2)))
 
 -- what a take of a packet leaves of them: its page words are due, or there are none
 pub record TookPages (k k' : Kept) (p : List ℕ) : Type 0 where
@@ -157,10 +139,8 @@ took_held k p (Some a) inside =
 
 pub took_pages : (c : ℕ) (k : Kept) (p : List ℕ) → k.count ≢ 0 → TookPages k (pages_took (layout c) k p) p
 took_pages c k p some =
-    at_cond (λ j. TookPages k j p) (k.count == 0) k _ (λ t. absurd (some (zero_by k.count t)))
-    (λ f.
-    at_cond (λ j. TookPages k j p) (kind_of p == 11) (has_back k p (first_page (is_lent (id_of p)) 0 k.owners)) (holds_now k p ((layout c).lends p)) (λ t. took_back k p (first_page (is_lent (id_of p)) 0 k.owners))
-    (λ f. took_held k p ((layout c).lends p) (λ a e. (loans.fits c p a e).2)))
+    rw (is_more k.count some)
+    (at_cond (λ j. TookPages k j p) (kind_of p == 11) _ _ (λ t. took_back k p (first_page (is_lent (id_of p)) 0 k.owners)) (λ f. took_held k p ((layout c).lends p) (λ a e. (loans.fits c p a e).2)))
 
 -- a page call changes neither the number of pages, nor the items that were sent, nor the owners
 pub record SamePages (k k' : Kept) : Type 0 where
@@ -168,15 +148,8 @@ pub record SamePages (k k' : Kept) : Type 0 where
   pub sent : k'.sent ≡ k.sent
   pub owners : k'.owners ≡ k.owners
 
-same_loaded : (d : Due) (k : Kept) (p : List ℕ) (v : ℕ) → SamePages k (page_loaded_at d k p v)
-same_loaded Clear k p v = record { count = refl; sent = refl; owners = refl }
-same_loaded (DueLoads q n j) k p v =
-    at_cond (λ x. SamePages k x) (ltb (j + 1) n) _ _ (λ t. record { count = refl; sent = refl; owners = refl }) (λ f. record { count = refl; sent = refl; owners = refl })
-
 same_fed : (c : PageCall) (k : Kept) (p : List ℕ) (v : ℕ) → SamePages k (page_fed c k p v)
-same_fed Off k p v = record { count = refl; sent = refl; owners = refl }
-same_fed (StoreWord q w u) k p v = record { count = refl; sent = refl; owners = refl }
-same_fed (LoadWords q n j) k p v = let s = same_loaded k.due k p v in record { count = s.count; sent = s.sent; owners = s.owners }
+same_fed c k p v = grind arith
 
 same_afters : (s : EndState) (c : PageCall) (vs : List ℕ) → SamePages s.pages (page_afters s c vs).pages
 same_afters s c [] = record { count = refl; sent = refl; owners = refl }
@@ -280,7 +253,7 @@ module _ {S : Type 0} (told : S → Option Told) (tale : S → Tale) (same : S �
               clear = λ _. run.clear;
               few = omega (arith, run.long, all.1);
               none = λ z. absurd (some z);
-              some = λ _. loads.items (λ c. not_clear q n (sym c ∙ due.2)) ∙ (λ j. due.3 j ++ item_of (is j) ws ∷ []);
+              some = λ _. loads.items (λ c. cc (c, due.2)) ∙ (λ j. due.3 j ++ item_of (is j) ws ∷ []);
             };
             owners = same_ws.owners;
             items = same_ws.sent;
@@ -294,9 +267,6 @@ module _ {S : Type 0} (told : S → Option Told) (tale : S → Tale) (same : S �
             spare_sent = loads.kept.spare_sent;
             same_seat = loads.same_seat;
           }
-        where
-          not_clear : (q n : ℕ) → Clear ≡ DueLoads q n 0 → ⊥
-          not_clear q n e = absurd (cc)
 
   pub taken_whole : IsClear k → mid.state.pages ≡ pages_took (layout k.count) k (newest mid.state.got) → (mid.state.pages.count ≢ 0 → Loads S told tale same mid new) → (mid.state.pages.count ≡ 0 → new ≡ mid) → TakenWhole told same k p mid new
   taken_whole clear pages loads none =

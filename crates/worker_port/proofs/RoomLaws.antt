@@ -1,6 +1,6 @@
 -- How much room a worker needs, and that it lacks none.
 use Rattle.page_kept.specs.declared.item.Item.{Item}
-use Rattle.std.proofs.Common.{◌≡◌, ℕ, zero, suc, ◌+◌, ◌*◌, ◌<◌, ◌≤◌, List, [], ◌∷◌, ◌++◌, length, filter, refl, sym, ap, ◌∙◌, subst, arith, Bool, true, false, inl, inr, ◌⊎◌, length-append, Option}
+use Rattle.std.proofs.Common.{◌≡◌, ℕ, ◌+◌, ◌*◌, ◌<◌, ◌≤◌, List, [], ◌∷◌, ◌++◌, length, filter, refl, sym, ap, ◌∙◌, subst, arith, Bool, true, false, inl, inr, ◌⊎◌, ⊎_elim, length-append, Option}
 use Rattle.std.specs.Prelude.{Result, Ok, Err, is_err, None}
 use Rattle.std.proofs.lemmas.List.{length-map}
 use Rattle.std.proofs.lemmas.List.Elements.{filter-append}
@@ -24,14 +24,7 @@ use Rattle.worker_port.specs.declared.ended.Ended.{Ended}
 use Rattle.worker_port.specs.declared.ended.Ended.TheVariants.{Marked, PeerMarked, Room as RoomEnd, Broken}
 
 by_less : (m n : ℕ) → (m < n) ⊎ (n ≤ m)
-by_less zero zero = inr (omega arith)
-by_less zero (suc n) = inl (omega arith)
-by_less (suc m) zero = inr (omega arith)
-by_less (suc m) (suc n) = more (by_less m n)
-  where
-    more : (m < n) ⊎ (n ≤ m) → (suc m < suc n) ⊎ (suc n ≤ suc m)
-    more (inl h) = inl (omega (arith, h))
-    more (inr h) = inr (omega (arith, h))
+by_less m n = grind arith
 
 pub words_more : (ps : List Item) (p : Item) → words_in (ps ++ p ∷ []) ≡ words_in ps + length p.packet
 words_more [] p = omega arith
@@ -55,31 +48,23 @@ count_front f ps qs front = omega (arith, ap (λ l. length (filter f l)) front.1
 -- what came from a peer that sent no more
 not_over : (kind : Item → Bool) (most room : ℕ) (mine other : List (Event Item)) → IsFront (got_of mine) (sent_of other) → AreShort (sent_of other) → length (got_of mine) ≤ room → length (filter kind (got_of mine)) ≤ most
     → CameOver kind most room mine → ⊥
-not_over kind most room mine other front short few few' over = by over.over
-  where
-    by : (room < length (got_of mine)) ⊎ ((384 * room < words_in (got_of mine)) ⊎ (most < length (filter kind (got_of mine)))) → ⊥
-    by (inl more) = omega (arith, more, few)
-    by (inr (inl more)) = omega (arith, more, few, short_words (got_of mine) (short_front (got_of mine) front.0 (subst AreShort front.1 short)))
-    by (inr (inr more)) = omega (arith, more, few')
+not_over kind most room mine other front short few few' over = grind (arith, over.over, few, few', short_words (got_of mine) (short_front (got_of mine) front.0 (subst AreShort front.1 short)))
 
 no_lack : {A Q R : Type 0} (s : WireFormat Item A Q R) (besides : Bool) (asks : ℕ) (how : Ended) (mine : List (Event Item)) → (CameOver s.is_message (besides_of besides asks) (room_of besides asks) mine → ⊥) → AskLacksFor s besides asks how mine
     → has_room how ≡ true
-no_lack s besides asks Marked mine none h = refl
-no_lack s besides asks PeerMarked mine none h = refl
-no_lack s besides asks (Broken why) mine none h = refl
 no_lack s besides asks (RoomEnd packets words left) mine none h = absurd (none h)
+no_lack s besides asks _ mine none h = refl
 
 no_call_lack : {A Q R : Type 0} (s : WireFormat Item A Q R) (besides : Bool) (most serve : ℕ) (stops : Bool) (how : Ended) (mine : List (Event Item)) → (CameOver s.is_request most (room_of besides most) mine → ⊥)
     → (stops ≡ false → AskedOver (is_asked s) serve mine → ⊥) → ServeLacksFor s besides most serve stops how mine → has_room how ≡ true
+no_call_lack s besides most serve stops (RoomEnd packets words left) mine none few (inl over) = absurd (none over)
+no_call_lack s besides most serve stops (RoomEnd packets words left) mine none few (inr over) = absurd (few over.0 over.1)
 no_call_lack s besides most serve stops Marked mine none few h = refl
 no_call_lack s besides most serve stops PeerMarked mine none few h = refl
 no_call_lack s besides most serve stops (Broken why) mine none few h = refl
-no_call_lack s besides most serve stops (RoomEnd packets words left) mine none few (inl over) = absurd (none over)
-no_call_lack s besides most serve stops (RoomEnd packets words left) mine none few (inr over) = absurd (few over.0 over.1)
 
 room_more : (besides : Bool) (m n : ℕ) → m ≤ n → room_of besides m ≤ room_of besides n
-room_more false m n le = le
-room_more true m n le = omega (arith, le)
+room_more besides m n le = grind (arith, le)
 
 pub never_lacks : {A Q R : Type 0} (s : WireFormat Item A Q R) → NeverLacks s
 never_lacks s besides asks most serve stops asker server asked served le few one a lacks b lacks' =
@@ -94,36 +79,24 @@ never_lacks s besides asks most serve stops asker server asked served le few one
 
 -- a list that lacks room for the next packet that comes has more than there was room made for
 pub takes_over : {S : Type 0} → (kind : Item → Bool) (most room packets words : ℕ) (e : Line S) → HasReserved room e → got_of e.state.past ≡ e.state.got → LacksTake packets words e → CameOver kind most room e.state.past
-takes_over kind most room packets words e h got l = record { over = by l.lacks }
+takes_over kind most room packets words e h got l =
+    record {
+      over = ⊎_elim (λ (over : room < length e.state.got). inl (omega (arith, over, ap length got)))
+          (λ (few : length e.state.got ≤ room). ⊎_elim (λ none. absurd (omega (arith, none, l.packets_is, h.packets, few, places_mono c (length e.state.got) (room + 1) (omega (arith, few)))))
+          (λ less. inr (inl (omega (arith, less, l.words_is, h.words, ap words_in got, words_next c room (room + 1) refl, words_mono c (length e.state.got) room few)))) l.lacks)
+          (by_less room (length e.state.got));
+    }
   where
-    -- either more packets came than there was room made for, or their page words have room
-    more : (room < length e.state.got) ⊎ (length e.state.got ≤ room)
-    more = by_less room (length e.state.got)
-
-    by : (packets ≡ 0) ⊎ (words < e.state.machine.cells + page_words e.end.state.pages.count 1) → (room < length (got_of e.state.past)) ⊎ ((384 * room < words_in (got_of e.state.past)) ⊎ (most < length (filter kind (got_of e.state.past))))
-    by (inl none) = places more
-      where
-        places : (room < length e.state.got) ⊎ (length e.state.got ≤ room) → (room < length (got_of e.state.past)) ⊎ ((384 * room < words_in (got_of e.state.past)) ⊎ (most < length (filter kind (got_of e.state.past))))
-        places (inl over) = inl (omega (arith, over, ap length got))
-        places (inr few) = absurd (omega (arith, none, l.packets_is, h.packets, few, places_mono e.end.state.pages.count (length e.state.got) (room + 1) (omega (arith, few))))
-    by (inr less) = words_by_count more
-      where
-        words_by_count : (room < length e.state.got) ⊎ (length e.state.got ≤ room) → (room < length (got_of e.state.past)) ⊎ ((384 * room < words_in (got_of e.state.past)) ⊎ (most < length (filter kind (got_of e.state.past))))
-        words_by_count (inl over) = inl (omega (arith, over, ap length got))
-        words_by_count (inr few) = inr (inl (omega (arith, less, l.words_is, h.words, ap words_in got, words_next e.end.state.pages.count room (room + 1) refl, words_mono e.end.state.pages.count (length e.state.got) room few)))
+    c : ℕ
+    c = e.end.state.pages.count
 
 -- a list that lacks room for a packet that goes is used up
 pub sent_up : {S : Type 0} → (room packets words : ℕ) (p : List ℕ) (e : Line S) → HasReservedSent room e → LacksSendOf packets words p e → room ≤ length (sent_of e.state.past)
-sent_up room packets words p e h l = by l.lacks
-  where
-    by : (packets ≡ 0) ⊎ (words < length p + page_words e.end.state.pages.count 1) → room ≤ length (sent_of e.state.past)
-    by (inl none) = omega (arith, none, l.packets_is, h.packets)
-    by (inr less) = used (by_less (length (sent_of e.state.past)) room)
-      where
-        used : (length (sent_of e.state.past) < room) ⊎ (room ≤ length (sent_of e.state.past)) → room ≤ length (sent_of e.state.past)
-        used (inl left) =
-            absurd (omega (arith, less, l.words_is, h.words, l.most, short_words (sent_of e.state.past) h.short, words_next e.end.state.pages.count (length (sent_of e.state.past)) (length (sent_of e.state.past) + 1) refl, words_mono e.end.state.pages.count (length (sent_of e.state.past) + 1) room (omega (arith, left)), left))
-        used (inr all) = all
+sent_up room packets words p e h l =
+    let c : ℕ = e.end.state.pages.count in
+    let n : ℕ = length (sent_of e.state.past) in
+    ⊎_elim (λ none. omega (arith, none, l.packets_is, h.packets))
+    (λ less. ⊎_elim (λ (left : n < room). absurd (omega (arith, less, l.words_is, h.words, l.most, short_words (sent_of e.state.past) h.short, words_next c n (n + 1) refl, words_mono c (n + 1) room (omega (arith, left)), left))) (λ all. all) (by_less n room)) l.lacks
 
 pub got_same : {S : Type 0} → (old new : Line S) → new.end.state.pages.count ≡ old.end.state.pages.count → new.state.got ≡ old.state.got → new.spare_got ≡ old.spare_got → GotInto old new
 got_same old new pages got spare = record {
@@ -199,11 +172,7 @@ module _ {A Q R : Type 0} (s : WireFormat Item A Q R) where
       → CameOver s.is_message (besides_of besides count) (room_of besides count) e.state.past
   asks_over besides count packets words p e few h l more =
       let up = sent_up (room_of besides count) packets words p e h l in
-      record { over = inr (inr (by besides (length (filter s.is_request (sent_of e.state.past))) (length (filter s.is_ack (sent_of e.state.past))) (length (filter s.is_message (got_of e.state.past))) (length (sent_of e.state.past)) up few.kinds few.requests few.acks more)) }
-    where
-      by : (besides : Bool) (requests acks messages sent : ℕ) → room_of besides count ≤ sent → sent ≤ requests + acks → requests ≤ count → acks ≤ messages → requests + acks < count + messages → besides_of besides count < messages
-      by false requests acks messages sent a b c d m = omega (arith, a, b, c, d, m)
-      by true requests acks messages sent a b c d m = omega (arith, a, b, c, d, m)
+      record { over = inr (inr (grind (arith, up, few.kinds, few.requests, few.acks, more))) }
 
   -- the next ask isn't sent, or a message that came isn't acknowledged
   pub ask_left : {S : Type 0} → (asks : List A) (next : ℕ) (e : Line S) → AsksAtMost s (length asks) e.state.past → length (filter s.is_request (sent_of e.state.past)) ≤ next → next < length asks
@@ -222,11 +191,7 @@ module _ {A Q R : Type 0} (s : WireFormat Item A Q R) where
   owed_over keeps besides held n most packets words p more rest calls left e may kept h l =
       let up = sent_up (room_of besides most) packets words p.packet e h l in
       let within = sent_within s keeps besides held n e.state.past calls (p ∷ more) left rest may kept in
-      record { over = inr (inr (by besides (length (filter s.is_request (got_of e.state.past))) (length (sent_of e.state.past)) up (omega (arith, within, length-append (sent_of e.state.past) (p ∷ more))))) }
-    where
-      by : (besides : Bool) (requests sent : ℕ) → room_of besides most ≤ sent → sent < room_of besides requests → most < requests
-      by false requests sent a b = omega (arith, a, b)
-      by true requests sent a b = omega (arith, a, b)
+      record { over = inr (inr (grind (arith, up, within, length-append (sent_of e.state.past) (p ∷ more)))) }
 
   -- a worker of the end that serves lacks room
   pub serve_over : {S : Type 0} → (keeps : Keeps s) (besides held : Bool) (n most packets words : ℕ) (owed rest : List Item) (calls : List (Call Q R)) (left : Option ℕ) (e : Line S) → MayHaveMessages s besides

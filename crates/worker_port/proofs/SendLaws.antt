@@ -13,7 +13,7 @@ use Rattle.ring_core.proofs.Paging.{first_of, none_along, other_of}
 use Rattle.worker_port.specs.Line.{AreFew, words_sent}
 use Rattle.ring_core.specs.Seen.{Seen}
 use Rattle.worker_port.proofs.ItemLaws.{Grows, SentAs}
-use Rattle.worker_port.proofs.PageLaws.{by_count, is_more, is_zero, laid_is, sent_pages}
+use Rattle.worker_port.proofs.PageLaws.{by_count, is_more, is_zero, laid_is, nil_by, sent_pages}
 
 -- all but the copy stays
 pub record Stored (k l : Kept) : Type 0 where
@@ -86,7 +86,7 @@ module _ (k l k' : Kept) (p ws : List ℕ) (e : l ≡ laid k p ws) where
       subst (Lays p ws (along k p)) (sym is)
       (by_count k.count
       (λ z.
-      let none = no_words ws (omega (arith, fits, none_along k p z)) in
+      let none = nil_by ws (omega (arith, fits, none_along k p z)) in
       record { packet_is = refl; words_are = (λ j. take (length (none j)) (words_none z j)) ∙ sym none; long = ap length (words_none z) ∙ sym (none_along k p z) })
       (λ some.
       let more : l.count ≢ 0 = λ z. some (sym s.count ∙ z) in
@@ -95,10 +95,6 @@ module _ (k l k' : Kept) (p ws : List ℕ) (e : l ≡ laid k p ws) where
         words_are = ap (take (length ws)) (words_are some) ∙ words more;
         long = ap length (words_are some) ∙ (sym (other_of (l.count == 0) 0 (length (last_words (pages_sent (layout l.count) l p).sent)) (is_more l.count more)) ∙ same);
       }))
-    where
-      no_words : (xs : List ℕ) → length xs ≤ 0 → xs ≡ []
-      no_words [] h = refl
-      no_words (x ∷ xs) h = absurd (omega (arith, h))
 
 -- by whether the packet was sent
 pub sent_by_how : {S : Type 0} (old new : Seen S) (l : Kept) (p ws : List ℕ) → l ≡ laid old.state.pages p ws → (b : Bool) → new.state.pages ≡ cond b (pages_sent (layout l.count) l p) l → new.state.sent ≡ cond b (old.state.sent ++ p ∷ []) old.state.sent

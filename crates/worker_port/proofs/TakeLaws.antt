@@ -1,15 +1,13 @@
 -- What a worker knows of its end after a take.
-use Rattle.std.proofs.Common.{◌≡◌, ◌≢◌, ◌≤◌, ◌==◌, ℕ, zero, suc, List, [], ◌∷◌, ◌++◌, length, Option, Some, None, Bool, true, false, cond, inl, inr, refl, sym, ap, ◌∙◌, subst}
-use Rattle.std.specs.Prelude.{slice_get, is_some}
+use Rattle.std.proofs.Common.{◌≡◌, ◌≢◌, ◌≤◌, ◌==◌, ℕ, zero, suc, List, [], ◌∷◌, ◌++◌, length, Option, Some, None, Bool, true, false, cond, inl, inr, refl, sym, ap, ◌∙◌, subst, arith}
+use Rattle.std.specs.Prelude.{slice_get}
 use Rattle.channel_trace.specs.declared.event.Event.{Event}
 use Rattle.channel_trace.specs.declared.event.Event.TheVariants.{Got}
 use Rattle.channel_trace.specs.Runs.{sent_of, got_of, has_marked}
 use Rattle.ring_machine.specs.declared.last.TakeRefusal.{TakeRefusal}
 use Rattle.ring_machine.specs.declared.machine.Ending.{Ending}
-use Rattle.ring_machine.specs.declared.machine.Ending.TheVariants.{Empty as EndedEmpty, Took, BadIndex, BadLength, BadOffset, CommittedQuiet, CommittedRaised}
-use Rattle.ring_machine.specs.declared.last.TakeRefusal.TheVariants.{Empty as TakeEmpty}
+use Rattle.ring_machine.specs.declared.machine.Ending.TheVariants.{Empty as EndedEmpty, BadIndex, BadLength, BadOffset, CommittedQuiet, CommittedRaised}
 use Rattle.ring_machine.specs.declared.machine.EndMachine.{EndMachine}
-use Rattle.ring_machine.specs.declared.machine.Stage.{Stage}
 use Rattle.ring_machine.specs.declared.machine.Stage.TheVariants.{Idle, Stopped}
 use Rattle.worker_port.specs.declared.found.Found.{Found}
 use Rattle.worker_port.specs.declared.found.Found.TheVariants.{Packet as FoundPacket, Nothing as FoundNothing, Broken as FoundBroken}
@@ -30,79 +28,53 @@ use Rattle.ring_core.specs.Taking.{Takes, TakesIdle, is_honest_take}
 use Rattle.ring_core.specs.Told.{Tale}
 use Rattle.ring_sleep.proofs.Telling.{tells_on, told_of}
 use Rattle.worker_port.specs.Tries.{FoundNone}
-use Rattle.worker_port.specs.Line.{Finds, IsLine, Line, LineState, TookOne, found_of, got_as, has_packet, line_of, past_as, words_at}
+use Rattle.worker_port.specs.Line.{IsLine, Line, LineState, TookOne, found_of, got_as, has_packet, line_of, past_as, words_at}
 use Rattle.worker_port.proofs.ItemLaws.{Grows, found_past, got_more, got_same_as, past_finds, past_got}
-use Rattle.worker_port.proofs.PortLaws.{items_on}
+use Rattle.worker_port.proofs.PortLaws.{items_on, line_on, rests_by}
 use Rattle.pkt_desc.specs.Packets.{kind_of, id_of}
 use Rattle.page_home_laws.specs.Home.{closed}
 use Rattle.worker_port.specs.Homes.{HasHome, KeepsHome, TakesHome}
 use Rattle.worker_port.proofs.HomeLaws.{home_taken}
 use Rattle.worker_port.proofs.PageLaws.{TakenPages, TakenWhole, by_count, few_more, newest_more}
 
-untook : (took : Bool) (r other : TakeRefusal) → Some r ≡ cond took None (Some other) → took ≡ false
-untook true r other e = absurd (cc)
-untook false r other e = refl
-
-refusal_is : (took : Bool) (r other : TakeRefusal) → Some r ≡ cond took None (Some other) → r ≡ other
-refusal_is true r other e = absurd (cc)
-refusal_is false r other e = cc
+-- a refusal says that nothing was taken, and which it is
+untook : (took : Bool) (r other : TakeRefusal) → Some r ≡ cond took None (Some other) → (took ≡ false) × (r ≡ other)
+untook true r other e = cc
+untook false r other e = (refl, cc)
 
 took_by_answer : (took : Bool) (r : TakeRefusal) → None ≡ cond took None (Some r) → took ≡ true
 took_by_answer true r e = refl
-took_by_answer false r e = absurd (cc)
+took_by_answer false r e = cc
 
 took_stage : (how : Ending) → is_took how ≡ true → cond (is_broken how) Stopped Idle ≡ Idle
-took_stage Took e = refl
-took_stage _ e = absurd (cc)
-
-abbrev found_stage : Found → Stage
-found_stage FoundBroken = Stopped
-found_stage _ = Idle
+took_stage how e = grind (arith, e)
 
 -- how a take ended that took nothing, by its refusal
 refused_past : (how : Ending) (m : EndMachine) (saw : Bool) (past : List (Event (List ℕ))) (r : TakeRefusal) → call_by how ≡ Take → is_took how ≡ false → r ≡ take_refusal how m → past_of how saw [] past ≡ found_past (found_of (Some r)) past
-refused_past EndedEmpty m saw past r call none is = ap (λ x. found_past (found_of (Some x)) past) (sym is)
-refused_past BadIndex m saw past r call none is = ap (λ x. found_past (found_of (Some x)) past) (sym is)
-refused_past BadLength m saw past r call none is = ap (λ x. found_past (found_of (Some x)) past) (sym is)
-refused_past BadOffset m saw past r call none is = ap (λ x. found_past (found_of (Some x)) past) (sym is)
-refused_past _ m saw past r call none is = absurd (cc)
-
-refused_stage : (how : Ending) (m : EndMachine) (r : TakeRefusal) → call_by how ≡ Take → is_took how ≡ false → r ≡ take_refusal how m → cond (is_broken how) Stopped Idle ≡ found_stage (found_of (Some r))
-refused_stage EndedEmpty m r call none is = ap (λ x. found_stage (found_of (Some x))) (sym is)
-refused_stage BadIndex m r call none is = ap (λ x. found_stage (found_of (Some x))) (sym is)
-refused_stage BadLength m r call none is = ap (λ x. found_stage (found_of (Some x))) (sym is)
-refused_stage BadOffset m r call none is = ap (λ x. found_stage (found_of (Some x))) (sym is)
-refused_stage _ m r call none is = absurd (cc)
+refused_past EndedEmpty m saw past r call none is = cc (is)
+refused_past BadIndex m saw past r call none is = cc (is)
+refused_past BadLength m saw past r call none is = cc (is)
+refused_past BadOffset m saw past r call none is = cc (is)
+refused_past _ m saw past r call none is = grind (arith, call, none)
 
 -- a take that found nothing ended so
 empty_how : (how : Ending) (m : EndMachine) (r : TakeRefusal) → call_by how ≡ Take → is_took how ≡ false → r ≡ take_refusal how m → found_of (Some r) ≡ FoundNothing → how ≡ EndedEmpty
 empty_how EndedEmpty m r call none is nothing = refl
-empty_how BadIndex m r call none is nothing = let bad : found_stage FoundBroken ≡ found_stage FoundNothing = ap (λ x. found_stage (found_of (Some x))) (sym is) ∙ ap found_stage nothing in absurd (cc)
-empty_how BadLength m r call none is nothing = let bad : found_stage FoundBroken ≡ found_stage FoundNothing = ap (λ x. found_stage (found_of (Some x))) (sym is) ∙ ap found_stage nothing in absurd (cc)
-empty_how BadOffset m r call none is nothing = let bad : found_stage FoundBroken ≡ found_stage FoundNothing = ap (λ x. found_stage (found_of (Some x))) (sym is) ∙ ap found_stage nothing in absurd (cc)
-empty_how _ m r call none is nothing = absurd (cc)
+empty_how BadIndex m r call none is nothing = cc (is, nothing)
+empty_how BadLength m r call none is nothing = cc (is, nothing)
+empty_how BadOffset m r call none is nothing = cc (is, nothing)
+empty_how _ m r call none is nothing = grind (arith, call, none)
 
 pub found_none : {S : Type 0} (told : S → Option Told) (tale : S → Tale) (old new : Seen S) (o : Option TakeRefusal) → TakesIdle S told tale old new o → found_of o ≡ FoundNothing → FoundNone told tale old new
-found_none told tale old new None takes nothing = absurd (cc)
+found_none told tale old new None takes nothing = cc
 found_none told tale old new (Some r) takes nothing =
     let m : EndMachine = new.state.machine in
-    let none = untook (is_took m.ended) r (take_refusal m.ended m) takes.answer in
-    record { looked = takes.ran; none = empty_how m.ended m r takes.call none (refusal_is (is_took m.ended) r (take_refusal m.ended m) takes.answer) nothing }
+    let no = untook (is_took m.ended) r (take_refusal m.ended m) takes.answer in
+    record { looked = takes.ran; none = empty_how m.ended m r takes.call no.0 no.1 nothing }
 
-found_got : (f : Found) (past : List (Event (List ℕ))) → got_of (found_past f past) ≡ got_of past
-found_got FoundPacket past = refl
-found_got FoundNothing past = refl
-found_got FoundBroken past = refl
-
-found_sent : (f : Found) (past : List (Event (List ℕ))) → sent_of (found_past f past) ≡ sent_of past
-found_sent FoundPacket past = refl
-found_sent FoundNothing past = refl
-found_sent FoundBroken past = refl
-
-found_mark : (f : Found) (past : List (Event (List ℕ))) → has_marked (found_past f past) ≡ has_marked past
-found_mark FoundPacket past = refl
-found_mark FoundNothing past = refl
-found_mark FoundBroken past = refl
+-- what a take that took nothing adds to the past adds neither an item nor a mark
+found_adds : (f : Found) (past : List (Event (List ℕ))) → (sent_of (found_past f past) ≡ sent_of past) × (got_of (found_past f past) ≡ got_of past) × (has_marked (found_past f past) ≡ has_marked past)
+found_adds f past = grind arith
 
 -- the refusal of a take that took nothing
 pub refusal_in : (o : Option TakeRefusal) → (found_of o ≡ FoundPacket → ⊥) → (r : TakeRefusal) × (o ≡ Some r)
@@ -110,22 +82,14 @@ refusal_in None not = absurd (not refl)
 refusal_in (Some r) not = (r, refl)
 
 pub no_packet : (o : Option TakeRefusal) (f : Found) → f ≡ found_of o → has_packet f ≡ false → found_of o ≡ FoundPacket → ⊥
-no_packet o f is none packet = let bad : true ≡ false = ap has_packet (sym packet ∙ sym is) ∙ none in absurd (cc)
+no_packet o f is none packet = cc (packet, is, none)
 
 pub a_packet : (f : Found) → has_packet f ≡ true → f ≡ FoundPacket
 a_packet FoundPacket is = refl
-a_packet FoundNothing is = absurd (cc)
-a_packet FoundBroken is = absurd (cc)
+a_packet _ is = cc (is)
 
 pub no_refusal : (o : Option TakeRefusal) → found_of o ≡ FoundPacket → o ≡ None
-no_refusal None is = refl
-no_refusal (Some (TakeEmpty at)) is = absurd (cc)
-no_refusal (Some r) is = absurd (cc)
-
-finds_at : {S : Type 0} (f : Found) (e : Line S) → e.state.machine.stage ≡ found_stage f → e.state.machine.asleep ≡ false → e.state.machine.marked ≡ false → Finds f e
-finds_at FoundPacket e at awake unmarked = record { idle = at; awake = awake; unmarked = unmarked }
-finds_at FoundNothing e at awake unmarked = record { idle = at; awake = awake; unmarked = unmarked }
-finds_at FoundBroken e at awake unmarked = record { stopped = at; awake = awake; unmarked = unmarked }
+no_refusal o is = grind (arith, is)
 
 took_by : (f : Found) (s t : LineState) → (f ≡ FoundPacket → ⊥) → t.past ≡ found_past f s.past → t.got ≡ s.got → TookOne f s t
 took_by FoundPacket s t not past got = absurd (not refl)
@@ -133,20 +97,7 @@ took_by FoundNothing s t not past got = (past, got)
 took_by FoundBroken s t not past got = (past, got)
 
 pub honest_found : (o : Option TakeRefusal) → is_honest_take o ≡ true → found_of o ≡ FoundBroken → ⊥
-honest_found None honest broken = absurd (cc)
-honest_found (Some (TakeEmpty at)) honest broken = absurd (cc)
-honest_found (Some r) honest broken = absurd (cc)
-
-rests_by : (b : Bool) → is_busy_at (cond b Stopped Idle) ≡ false
-rests_by true = refl
-rests_by false = refl
-
-awake_dozes : {X : Type 0} (b : Bool) → b ≡ false → b ≡ true → X
-awake_dozes b e f = absurd (cc)
-
-kept : (b : Bool) (z x y : ℕ) → z ≡ cond b x y → b ≡ false → z ≡ y
-kept true z x y e f = absurd (cc)
-kept false z x y e f = e
+honest_found o honest broken = grind (arith, honest, broken)
 
 packets_more : (ps : List (List ℕ)) (w : List ℕ) → IsPacket w → ((i : ℕ) (p : List ℕ) → slice_get ps i ≡ Some p → IsPacket p) → (i : ℕ) (p : List ℕ) → slice_get (ps ++ w ∷ []) i ≡ Some p → IsPacket p
 packets_more [] w k h zero p e = let same : w ≡ p = cc in subst IsPacket same k
@@ -187,49 +138,33 @@ module _ {S : Type 0} {told : S → Option Told} {tale : S → Tale} {same : S �
     t : TakesIdle S told tale old new o
     t = takes.idle idle
 
-    none : is_took m.ended ≡ false
-    none = untook (is_took m.ended) r (take_refusal m.ended m) (sym some ∙ t.answer)
-
-    is : r ≡ take_refusal m.ended m
-    is = refusal_is (is_took m.ended) r (take_refusal m.ended m) (sym some ∙ t.answer)
+    no : (is_took m.ended ≡ false) × (r ≡ take_refusal m.ended m)
+    no = untook (is_took m.ended) r (take_refusal m.ended m) (sym some ∙ t.answer)
 
     past : new.state.past ≡ found_past (found_of o) old.state.past
-    past = (t.refused none).1 ∙ (refused_past m.ended m m.saw old.state.past r t.call none is ∙ ap (λ x. found_past (found_of x) old.state.past) (sym some))
+    past = (t.refused no.0).1 ∙ (refused_past m.ended m m.saw old.state.past r t.call no.0 no.1 ∙ ap (λ x. found_past (found_of x) old.state.past) (sym some))
 
     module _ (f : Item → Item) (pages : new.state.pages ≡ old.state.pages) where
       pub refused_took : TookOne (found_of o) (line_of f old).state (line_of f new).state
-      refused_took = took_by (found_of o) (line_of f old).state (line_of f new).state not (past_finds f (found_of o) old.state new.state not past takes.kept.0 (t.refused none).0 pages) (got_same_as f old.state new.state (t.refused none).0 pages)
+      refused_took = took_by (found_of o) (line_of f old).state (line_of f new).state not (past_finds f (found_of o) old.state new.state not past takes.kept.0 (t.refused no.0).0 pages) (got_same_as f old.state new.state (t.refused no.0).0 pages)
 
       pub refused_room : ((line_of f new).state.got ≡ (line_of f old).state.got) × (new.spare_got ≡ old.spare_got)
-      refused_room = (got_same_as f old.state new.state (t.refused none).0 pages, (t.refused none).2)
-
-    pub refused_finds : (f : Item → Item) → Finds (found_of o) (line_of f new)
-    refused_finds f = finds_at (found_of o) (line_of f new) (t.leaves.stage ∙ (refused_stage m.ended m r t.call none is ∙ ap (λ x. found_stage (found_of x)) (sym some))) takes.awake.0 takes.awake.1
-
-    pub refused_tells : is_some (told new.seat) ≡ is_some (told old.seat)
-    refused_tells = tells_on _ _ _ _ _ _ t.ran
+      refused_room = (got_same_as f old.state new.state (t.refused no.0).0 pages, (t.refused no.0).2)
 
     pub refused_line : new.state.pages ≡ old.state.pages → old.state.machine.marked ≡ false → IsLine told old → IsLine told new
-    refused_line pages unmarked h = record {
-      rests = ap is_busy_at t.leaves.stage ∙ rests_by (is_broken m.ended);
-      dozes = λ e. awake_dozes m.asleep takes.awake.0 e;
-      honest = λ e. let u = told_of (told old.seat) (sym refused_tells ∙ e) in (takes.honest u.0 u.1).1;
-      sent = ap sent_of past ∙ (found_sent (found_of o) old.state.past ∙ (h.sent ∙ sym takes.kept.0));
-      got = ap got_of past ∙ (found_got (found_of o) old.state.past ∙ (h.got ∙ sym (t.refused none).0));
-      packets = λ i p e. h.packets i p (ap (λ l. slice_get l i) (sym (t.refused none).0) ∙ e);
-      committed = t.after.start (λ e. cc) ∙ (h.committed ∙ sym (kept (is_took m.ended) m.read _ old.state.machine.read t.leaves.read none));
-      mark = takes.awake.1 ∙ (sym unmarked ∙ (h.mark ∙ sym (ap has_marked past ∙ found_mark (found_of o) old.state.past)));
-      size = subst (λ n. (512 ≤ n) × (n ≤ 16777216)) (sym takes.cells) h.size;
-      pages = items_on old.state new.state pages takes.kept.0 (t.refused none).0 h.pages;
-    }
+    refused_line pages unmarked h =
+        let adds = found_adds (found_of o) old.state.past in
+        line_on told old new pages takes.kept.0 (t.refused no.0).0 takes.cells
+        (ap is_busy_at t.leaves.stage ∙ rests_by (is_broken m.ended), λ e. cc (takes.awake.0, e), λ e. let u = told_of (told old.seat) (sym (tells_on _ _ _ _ _ _ t.ran) ∙ e) in (takes.honest u.0 u.1).1)
+        (t.after.start (λ e. cc)) (cc (t.leaves.read, no.0)) (cc (past, adds.0)) (cc (past, adds.1)) (cc (takes.awake.1, unmarked, h.mark, past, adds.2)) h
 
     -- the packets stay
     pub refused_list : new.state.got ≡ old.state.got
-    refused_list = (t.refused none).0
+    refused_list = (t.refused no.0).0
 
     -- the pages stay
     pub refused_pages : new.state.pages ≡ cond (is_took m.ended) (pages_took (layout old.state.pages.count) old.state.pages (newest new.state.got)) old.state.pages → new.state.pages ≡ old.state.pages
-    refused_pages is = is ∙ other_of (is_took m.ended) (pages_took (layout old.state.pages.count) old.state.pages (newest new.state.got)) old.state.pages none
+    refused_pages is = is ∙ other_of (is_took m.ended) (pages_took (layout old.state.pages.count) old.state.pages (newest new.state.got)) old.state.pages no.0
 
   -- the pages, where a packet was taken
   pub took_pages_of : (old new : Seen S) (o : Option TakeRefusal) → Takes S told tale same old new o → old.state.machine.stage ≡ Idle → o ≡ None

@@ -115,6 +115,7 @@ impl<T: Protocol, S: Parks + Drop> Port<T, S> {
     }
 
     /// The packets and words for which the list of what was got has room.
+    #[tactic(auto, using(crate::proofs::ItemLaws::got_view))]
     pub fn spare_got(&self) -> Room
         ensures value { result ≡ self.now.spare_got }
         ensures got { got_of self.now.state.past ≡ self.now.state.got }
@@ -123,6 +124,7 @@ impl<T: Protocol, S: Parks + Drop> Port<T, S> {
     }
 
     /// The room that is left of the list of what was got, where it is too little for the next packet.
+    #[tactic(auto, using(crate::proofs::ItemLaws::got_view))]
     pub fn lacks_take(&self) -> Option<Room>
         ensures lacks { MatchOption result (HasTakeRoom self.now) (λ r. LacksTake r.packets r.words self.now) }
         ensures got { got_of self.now.state.past ≡ self.now.state.got }
@@ -136,6 +138,7 @@ impl<T: Protocol, S: Parks + Drop> Port<T, S> {
     }
 
     /// The room that is left of the list of what was sent, where it is too little for this packet.
+    #[tactic(auto, using(crate::proofs::ItemLaws::got_view))]
     pub fn lacks_send(&self, packet: &[u64]) -> Option<Room>
         requires { length packet.now ≤ 384 }
         ensures lacks { MatchOption result (HasSendRoom packet.now self.now) (λ r. LacksSendOf r.packets r.words packet.now self.now) }

@@ -2,7 +2,7 @@ use Rattle.std.proofs.Common.{◌∷◌, sym, ap, ◌∙◌, subst}
 use Rattle.channel_trace.specs.declared.event.Event.TheVariants.{Marked}
 use Rattle.channel_trace.specs.Runs.{got_of, has_marked}
 use Rattle.worker_port.specs.Line.{Line}
-use Rattle.worker_port.proofs.ItemLaws.{got_same_as, line_got, line_marked, mark_past}
+use Rattle.worker_port.proofs.ItemLaws.{got_same_as, line_got, line_marked, mark_past, quiet_lists}
 use Rattle.worker_port.proofs.PortLaws.{mark_keeps}
 use Rattle.worker_port.specs.Homes.{KeepsHome}
 use Rattle.worker_port.proofs.HomeLaws.{quiet_home}
@@ -10,7 +10,8 @@ use Rattle.ring_machine.specs.Steps.{is_busy_at}
 use Rattle.ring_end_history.specs.Calls.{MarkCall}
 use Rattle.ring_end_history.proofs.Joining.{came_call}
 use Rattle.worker_port.proofs.CameLaws.{came_on}
-use Rattle.worker_port.proofs.PortLaws.{mark_line}
+use Rattle.worker_port.proofs.PortLaws.{quiet_call}
+use Rattle.ring_machine.specs.EndCalls.{Mark as MarkCall}
 use Rattle.worker_port.proofs.port.Port.mark.Goals as goal
 
 pub invariant_of-self : goal.invariant_of-self
@@ -18,7 +19,7 @@ invariant_of-self g c =
     let e = c.mark.ensures in
     let idle = ap (λ (x : Line _). x.state.machine.stage) c.self.view_is ∙ c.requires.ready.idle in
     record {
-      line = mark_line g.S.Seatlike.told _ _ e.kept e.leaves e.past (ap (λ (x : Line _). x.state.machine.marked) c.self.view_is ∙ c.requires.ready.unmarked) c.self.invariant.line e.after e.call;
+      line = quiet_call g.S.Seatlike.told MarkCall _ _ (λ e. cc) (λ e. cc) (λ e. cc) e.kept e.leaves e.after e.call e.past (ap (λ (x : Line _). x.state.machine.marked) c.self.view_is ∙ c.requires.ready.unmarked) c.self.invariant.line;
       came = came_on g.S.Seatlike.tale _ _ c.self.invariant.came (came_call g.S.Seatlike.tale g.S.Seatlike.told MarkCall _ _ idle e.ran (ap is_busy_at (e.after.idle (λ e. cc) (λ e. cc))));
     }
 
@@ -47,12 +48,7 @@ returns-clause-got g c =
     ∙ (line_got g.T.Protocol.said c.self.inside.end c.self.invariant.line ∙ sym (got_same_as g.T.Protocol.said c.self.inside.end.state n e.kept.got e.kept.pages))
 
 pub returns-clause-lists : goal.returns-clause-lists
-returns-clause-lists g c =
-    let k = c.mark.ensures.kept in (
-      got_same_as g.T.Protocol.said c.self.inside.end.state c.mark.new.self.state k.got k.pages ∙ ap (λ (x : Line _). x.state.got) c.self.view_is,
-      k.spare_got ∙ ap (λ (x : Line _). x.spare_got) c.self.view_is,
-      k.spare_sent ∙ ap (λ (x : Line _). x.spare_sent) c.self.view_is,
-    )
+returns-clause-lists g c = quiet_lists g.T.Protocol.said c.self.inside.end c.mark.new.self _ c.self.view_is c.mark.ensures.kept
 
 pub returns-clause-home : goal.returns-clause-home
 returns-clause-home g c = subst (λ (x : Line _). KeepsHome x.end.state c.mark.new.self.state) c.self.view_is (quiet_home c.self.inside.end c.mark.new.self c.mark.ensures.kept c.mark.ensures.leaves.side)

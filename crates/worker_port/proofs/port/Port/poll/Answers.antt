@@ -1,6 +1,6 @@
 use Rattle.std.proofs.Common.{◌∙◌, ap, subst}
 use Rattle.worker_port.specs.Line.{Line}
-use Rattle.worker_port.proofs.ItemLaws.{got_same_as, poll_past}
+use Rattle.worker_port.proofs.ItemLaws.{poll_past, quiet_lists}
 use Rattle.worker_port.proofs.PortLaws.{poll_waits}
 use Rattle.worker_port.specs.Homes.{KeepsHome}
 use Rattle.worker_port.proofs.HomeLaws.{quiet_home}
@@ -8,7 +8,8 @@ use Rattle.ring_machine.specs.Steps.{is_busy_at}
 use Rattle.ring_end_history.specs.Calls.{PollCall}
 use Rattle.ring_end_history.proofs.Joining.{came_call}
 use Rattle.worker_port.proofs.CameLaws.{came_on}
-use Rattle.worker_port.proofs.PortLaws.{poll_line}
+use Rattle.worker_port.proofs.PortLaws.{quiet_call}
+use Rattle.ring_machine.specs.EndCalls.{Poll}
 use Rattle.worker_port.proofs.port.Port.poll.Goals as goal
 
 pub invariant_of-self : goal.invariant_of-self
@@ -16,7 +17,7 @@ invariant_of-self g c =
     let e = c.poll_signal.ensures in
     let idle = c.self.invariant.line.dozes (ap (λ (x : Line _). x.state.machine.asleep) c.self.view_is ∙ c.requires.asleep) in
     record {
-      line = poll_line g.S.Seatlike.told _ _ e.kept e.leaves e.past (ap (λ (x : Line _). x.state.machine.marked) c.self.view_is ∙ c.requires.unmarked) c.self.invariant.line e.after e.answer.1;
+      line = quiet_call g.S.Seatlike.told Poll _ _ (λ e. cc) (λ e. cc) (λ e. cc) e.kept e.leaves e.after e.answer.1 e.past (ap (λ (x : Line _). x.state.machine.marked) c.self.view_is ∙ c.requires.unmarked) c.self.invariant.line;
       came = came_on g.S.Seatlike.tale _ _ c.self.invariant.came (came_call g.S.Seatlike.tale g.S.Seatlike.told PollCall _ _ idle e.ran (ap is_busy_at (e.after.idle (λ e. cc) (λ e. cc))));
     }
 
@@ -32,12 +33,7 @@ returns-clause-past g c =
     poll_past g.T.Protocol.said c.self.inside.end.state n n.machine.ended n.machine.saw e.answer.1 e.past e.kept.sent e.kept.got e.kept.pages ∙ ap (λ (x : Line _). x.state.past) c.self.view_is
 
 pub returns-clause-lists : goal.returns-clause-lists
-returns-clause-lists g c =
-    let k = c.poll_signal.ensures.kept in (
-      got_same_as g.T.Protocol.said c.self.inside.end.state c.poll_signal.new.self.state k.got k.pages ∙ ap (λ (x : Line _). x.state.got) c.self.view_is,
-      k.spare_got ∙ ap (λ (x : Line _). x.spare_got) c.self.view_is,
-      k.spare_sent ∙ ap (λ (x : Line _). x.spare_sent) c.self.view_is,
-    )
+returns-clause-lists g c = quiet_lists g.T.Protocol.said c.self.inside.end c.poll_signal.new.self _ c.self.view_is c.poll_signal.ensures.kept
 
 pub returns-clause-home : goal.returns-clause-home
 returns-clause-home g c = subst (λ (x : Line _). KeepsHome x.end.state c.poll_signal.new.self.state) c.self.view_is (quiet_home c.self.inside.end c.poll_signal.new.self c.poll_signal.ensures.kept c.poll_signal.ensures.leaves.side)

@@ -1,6 +1,6 @@
 use Rattle.std.proofs.Common.{ap, ◌∙◌, subst}
 use Rattle.worker_port.specs.Line.{Line}
-use Rattle.worker_port.proofs.ItemLaws.{got_same_as, past_same}
+use Rattle.worker_port.proofs.ItemLaws.{past_same, quiet_lists}
 use Rattle.worker_port.proofs.CameLaws.{came_on}
 use Rattle.worker_port.proofs.PortLaws.{slept_line}
 use Rattle.worker_port.specs.Homes.{KeepsHome}
@@ -19,12 +19,7 @@ returns-clause-past g c =
     past_same g.T.Protocol.said c.self.inside.end.state c.sleep.new.e.state s.past s.kept.sent s.kept.got s.kept.pages ∙ ap (λ (x : Line _). x.state.past) c.self.view_is
 
 pub returns-clause-lists : goal.returns-clause-lists
-returns-clause-lists g c =
-    let k = c.sleep.ensures.slept.kept in (
-      got_same_as g.T.Protocol.said c.self.inside.end.state c.sleep.new.e.state k.got k.pages ∙ ap (λ (x : Line _). x.state.got) c.self.view_is,
-      k.spare_got ∙ ap (λ (x : Line _). x.spare_got) c.self.view_is,
-      k.spare_sent ∙ ap (λ (x : Line _). x.spare_sent) c.self.view_is,
-    )
+returns-clause-lists g c = quiet_lists g.T.Protocol.said c.self.inside.end c.sleep.new.e _ c.self.view_is c.sleep.ensures.slept.kept
 
 pub returns-clause-home : goal.returns-clause-home
 returns-clause-home g c = subst (λ (x : Line _). KeepsHome x.end.state c.sleep.new.e.state) c.self.view_is (quiet_home c.self.inside.end c.sleep.new.e c.sleep.ensures.slept.kept c.sleep.ensures.slept.side)

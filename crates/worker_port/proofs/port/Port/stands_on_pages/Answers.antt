@@ -8,27 +8,18 @@ use Rattle.worker_port.proofs.ItemLaws.{line_got}
 use Rattle.worker_port.proofs.ItemRuns.{items_got, items_sent, whole_is}
 use Rattle.worker_port.proofs.port.Port.stands_on_pages.Goals as goal
 
-pub returns-clause-clear : goal.returns-clause-clear
-returns-clause-clear g c = subst (λ (x : Line _). IsClear x.end.state.pages) c.self.view_is c.self.invariant.line.pages.clear
-
-pub returns-clause-items : goal.returns-clause-items
-returns-clause-items g c =
-    subst (λ (x : Line _). x.end.state.pages.count ≢ 0 → (packets x.end.state.pages.sent ≡ x.end.state.sent) × (packets x.end.state.pages.got ≡ x.end.state.got)) c.self.view_is c.self.invariant.line.pages.items
-
-pub returns-clause-read : goal.returns-clause-read
-returns-clause-read g c =
+pub returns : goal.returns
+returns g c =
+    let v = c.self.view_is in
     let f = g.T.Protocol.said in
     let e = c.self.inside.end in
     let h = c.self.invariant.line in
-    subst (λ (x : Line _). x.end.state.pages.count ≢ 0 → (sent_of x.state.past ≡ map f x.end.state.pages.sent) × (got_of x.state.past ≡ map f x.end.state.pages.got)) c.self.view_is
-    (λ some. (items_sent f e h ∙ ap (map f) (whole_is e.state.sent e.state.pages.sent (h.pages.items some).0), items_got f e h ∙ ap (map f) (whole_is e.state.got e.state.pages.got (h.pages.items some).1)))
-
-pub returns-clause-listed : goal.returns-clause-listed
-returns-clause-listed g c = subst (λ (x : Line _). length x.end.state.pages.owners ≡ x.end.state.pages.count) c.self.view_is c.self.invariant.line.pages.listed
-
-pub returns-clause-got : goal.returns-clause-got
-returns-clause-got g c = subst (λ (x : Line _). got_of x.state.past ≡ x.state.got) c.self.view_is (line_got g.T.Protocol.said c.self.inside.end c.self.invariant.line)
-
-pub returns-clause-told : goal.returns-clause-told
-returns-clause-told g c =
-    subst (λ (x : Line _). (u : Told) → g.S.Seatlike.told x.seat ≡ Some u → u.state ≡ x.end.state) c.self.view_is c.items_fit.ensures.told
+    record {
+      clear = subst (λ (x : Line _). IsClear x.end.state.pages) v h.pages.clear;
+      items = subst (λ (x : Line _). x.end.state.pages.count ≢ 0 → (packets x.end.state.pages.sent ≡ x.end.state.sent) × (packets x.end.state.pages.got ≡ x.end.state.got)) v h.pages.items;
+      read = subst (λ (x : Line _). x.end.state.pages.count ≢ 0 → (sent_of x.state.past ≡ map f x.end.state.pages.sent) × (got_of x.state.past ≡ map f x.end.state.pages.got)) v
+          (λ some. (items_sent f e h ∙ ap (map f) (whole_is e.state.sent e.state.pages.sent (h.pages.items some).0), items_got f e h ∙ ap (map f) (whole_is e.state.got e.state.pages.got (h.pages.items some).1)));
+      listed = subst (λ (x : Line _). length x.end.state.pages.owners ≡ x.end.state.pages.count) v h.pages.listed;
+      got = subst (λ (x : Line _). got_of x.state.past ≡ x.state.got) v (line_got f e h);
+      told = subst (λ (x : Line _). (u : Told) → g.S.Seatlike.told x.seat ≡ Some u → u.state ≡ x.end.state) v c.items_fit.ensures.told;
+    }
