@@ -1,36 +1,19 @@
 -- A side begins the part that comes next.
 use Rattle.std.proofs.Common.{◌≡◌, ◌∙◌, ℕ, suc, ◌+◌, ◌<◌, nat_le, nat_lt, Bool, true, List, [], ◌∷◌, ◌++◌, length, map, drop, Option, Some, None, if◌then◌else◌, refl, sym, ap, subst, append_assoc, arith}
-use Rattle.std.specs.List.{flat_map}
 use Rattle.std.proofs.lemmas.Bool.Decides.{nat_tests}
-use Rattle.contact.specs.declared.version.Version.{Version}
-use Rattle.contact.specs.declared.part.Part.{Part}
-use Rattle.contact.specs.declared.part.Part.TheVariants.{Contact, PhaseStart, PhaseEnd, Unload}
-use Rattle.contact.specs.Versions.{version, versions_tried}
-use Rattle.chan_state.specs.declared.state.State.TheVariants.{Opened}
-use Rattle.chan_state.specs.declared.chan_state.ChanState.{ChanState}
-use Rattle.gpadl.specs.Assembly.{Assembly}
-use Rattle.vmbus_msg.specs.declared.msg.Msg.{Msg}
-use Rattle.control_model.specs.declared.opening.Opening.{Opening}
-use Rattle.control_model.specs.declared.channel.Channel.{Channel}
-use Rattle.control_model.specs.declared.change.Change.TheVariants.{Same}
-use Rattle.control_model.specs.declared.burst.Burst.TheVariants.{One}
-use Rattle.control_model.specs.declared.guest_wait.GuestWait.{GuestWait}
-use Rattle.control_model.specs.declared.guest_wait.GuestWait.TheVariants.{Nothing, Unloaded}
-use Rattle.control_model.specs.declared.guest_turn.GuestTurn.{GuestTurn}
-use Rattle.control_model.specs.declared.host_wait.HostWait.{HostWait}
-use Rattle.control_model.specs.declared.host_wait.HostWait.TheVariants.{Nothing as HostNothing, Unload as AwaitsUnload}
-use Rattle.control_model.specs.declared.host_next.HostNext.{HostNext}
+use Rattle.control_laws.proofs.Words.{Version, Part, Contact, PhaseStart, PhaseEnd, Unload, version, versions_tried, Opened, ChanState, Assembly, Msg, Opening, Channel, Same, One, GuestWait, Unloaded, GuestTurn, HostWait, HostNothing, AwaitsUnload, HostNext}
+use Rattle.control_model.specs.declared.guest_wait.GuestWait.TheVariants.{Nothing}
 use Rattle.control_model.specs.Plan.{BusPlan, part_after, opening_at, closing_at, IsPlan, phase_of, closing_of}
 use Rattle.control_model.specs.Channels.{changed}
 use Rattle.control_model.specs.Messages.{propose, request, farewell, farewell_taken, Sends}
-use Rattle.control_model.specs.Said.{agreed, guest_closes, host_closes, from_3_0}
+use Rattle.control_model.specs.Said.{agreed, from_3_0}
 use Rattle.control_model.specs.Guest.{GuestSeen, can_begin, idle, guest_begins}
 use Rattle.control_model.specs.Host.{HostSeen, host_can_begin, next_end, rescinded_among, without_its, host_begins}
 use Rattle.control_model.specs.Stand.{EndsAt, offered_before, offered_by, marked, guest_is, host_is, guest_before, host_before, Stand, Agreed, Meet, handles, vps_before}
 use Rattle.control_model.specs.GuestAt.{guest_from, host_from, end_to_say, end_to_hear, to_say, to_hear, GuestStands}
-use Rattle.control_model.specs.GuestAt.GuestStands.{fresh, proposes, asks, contacted, offers, dials, lists, opens, fills, moves, started, empties, closes, gives_back, gives_sub_back, ended, leaves, is_over}
+use Rattle.control_model.specs.GuestAt.GuestStands.{fresh, proposes, contacted, started, ended, leaves, is_over}
 use Rattle.control_model.specs.HostAt.{host_end_to_say, host_end_to_hear, host_to_say, host_to_hear, live_ones, lists_but, HostStands}
-use Rattle.control_model.specs.HostAt.HostStands.{fresh as IsFresh, answers as IsAnswering, accepts as IsAccepting, contacted as IsContacted, connects as IsConnecting, lists as IsListing, listed as IsListed, fills as IsFilling, moves as IsMoving, started as IsStarted, empties as IsEmptying, closes as IsClosing, tears as IsTearing, takes_back as IsTakingBack, ended as IsEnded, leaves as IsLeaving, is_over as IsDone}
+use Rattle.control_model.specs.HostAt.HostStands.{fresh as IsFresh, answers as IsAnswering, contacted as IsContacted, started as IsStarted, ended as IsEnded, leaves as IsLeaving, is_over as IsDone}
 use Rattle.control_laws.proofs.NextOne.{guest_next_awaits, guest_next_stands, guest_next_sends, host_next_awaits, host_next_stands, host_next_done, host_next_sends}
 use Rattle.control_laws.proofs.Logs.{Logs, a_guest, a_host}
 use Rattle.control_laws.proofs.Marks.{by_test, marked_here, stand_like}
@@ -44,7 +27,7 @@ use Rattle.control_laws.proofs.Next.{Turned, pieces_of}
 use Rattle.control_laws.proofs.Moving.{next_list, next_wait}
 use Rattle.control_laws.proofs.NextEnd.{NextIs, guest_goes, guest_stands_so, guest_next, host_goes, host_stands_so, host_next}
 use Rattle.control_laws.proofs.Tried.{first_tried, agreed_is}
-use Rattle.control_laws.proofs.Saying.{ends_said, ends_heard, host_ends_said, host_ends_heard, guest_from_phase, host_from_phase, guest_at_last, host_at_last}
+use Rattle.control_laws.proofs.Saying.{guest_onward, host_onward, ends_said, ends_heard, host_ends_said, host_ends_heard, guest_from_phase, host_from_phase, guest_at_last, host_at_last}
 
 -- a guest that began a part
 pub record GuestBegun (plan : BusPlan) (g : GuestSeen) (part : Part) : Type 0 where
@@ -82,8 +65,7 @@ host_contact plan logs planned = record {
 -- at the start of a phase no sub-channel of it is offered
 at_start : {X : Type 0} (plan : BusPlan) (v : Version) (channels : List X) (phase : ℕ) (stands : ℕ → X) → IsPlan plan → phase < length plan.phases → Meet plan v channels (offered_before plan phase) stands → Meet plan v channels (offered_by plan phase [] (phase_of plan phase)) stands
 at_start plan v channels phase stands planned in_plan meet =
-    let none = ap length (starts_first (phase_of plan phase) (phase_seated plan phase planned in_plan)) in
-    let count : offered_before plan phase ≡ offered_by plan phase [] (phase_of plan phase) = omega (arith, none) in
+    let count : offered_before plan phase ≡ offered_by plan phase [] (phase_of plan phase) = omega (arith, ap length (starts_first (phase_of plan phase) (phase_seated plan phase planned in_plan))) in
     subst (λ n. Meet plan v channels n stands) count meet
 
 guest_phase : (plan : BusPlan) (logs : Logs) (part : Option Part) (v : Version) (guests : List Channel) (phase : ℕ) → IsPlan plan → phase < length plan.phases → Meet plan v guests (offered_before plan phase) (guest_before (vps_before plan phase) plan phase)
@@ -92,8 +74,8 @@ guest_phase plan logs part v guests phase planned in_plan meet left to_come =
     let onward = next_list plan logs part v guests phase 0 [] (phase_of plan phase) Nothing Nothing Same planned in_plan refl refl (at_start plan v guests phase (guest_before (vps_before plan phase) plan phase) planned in_plan meet) (λ none relid some. refl) in
     record {
       goes = onward.goes;
-      says = λ sent sends. left ∙ guest_from_phase plan phase in_plan ∙ onward.says sent (flat_map guest_closes (closing_of plan phase) ++ guest_from plan (suc phase)) sends;
-      hears = to_come ∙ host_from_phase plan phase in_plan ∙ onward.heard (flat_map host_closes (closing_of plan phase) ++ host_from plan (suc phase));
+      says = λ sent sends. left ∙ guest_from_phase plan phase in_plan ∙ onward.says sent (guest_onward plan phase) sends;
+      hears = to_come ∙ host_from_phase plan phase in_plan ∙ onward.heard (host_onward plan phase);
     }
 
 host_phase : (plan : BusPlan) (logs : Logs) (part : Option Part) (v : Version) (hosts : List ChanState) (phase : ℕ) → IsPlan plan → phase < length plan.phases → Meet plan v hosts (offered_before plan phase) (host_before (vps_before plan phase) plan phase)
@@ -105,8 +87,8 @@ host_phase plan logs part v hosts phase planned in_plan meet left to_come =
       pieces = pieces_of (opening_at plan phase 0);
       goes = onward.goes;
       says = λ sent e. ap (λ s. s ++ host_to_say plan part HostNothing []) (sym e)
-          ∙ ap (λ xs. sent ++ xs) (left ∙ host_from_phase plan phase in_plan ∙ onward.says (flat_map host_closes (closing_of plan phase) ++ host_from plan (suc phase)));
-      hears = to_come ∙ guest_from_phase plan phase in_plan ∙ onward.hears (flat_map guest_closes (closing_of plan phase) ++ guest_from plan (suc phase));
+          ∙ ap (λ xs. sent ++ xs) (left ∙ host_from_phase plan phase in_plan ∙ onward.says (host_onward plan phase));
+      hears = to_come ∙ guest_from_phase plan phase in_plan ∙ onward.hears (guest_onward plan phase);
     }
 
 -- the first channel that is done with is open, and the channels of the phase stand alike in the order in which they are closed
@@ -128,8 +110,7 @@ guest_end : (plan : BusPlan) (logs : Logs) (v : Version) (guests : List Channel)
     → GuestBegun plan (a_guest plan logs (Some (PhaseStart phase)) Nothing (Some v) guests) (PhaseEnd phase)
 guest_end plan logs v guests phase planned in_plan meet =
     let os : List Opening = closing_of plan phase in
-    let g : GuestSeen = a_guest plan logs (Some (PhaseStart phase)) Nothing (Some v) guests in
-    let turn : GuestTurn = guest_begins g (PhaseEnd phase) in
+    let turn : GuestTurn = guest_begins (a_guest plan logs (Some (PhaseStart phase)) Nothing (Some v) guests) (PhaseEnd phase) in
     let stand = in_closing plan guests (guest_is (vps_before plan (suc phase)) Opened) (guest_before (vps_before plan (suc phase)) plan phase) phase planned in_plan meet.stand in
     let ends = guest_goes plan v guests phase 0 [] os Nothing Same None planned in_plan refl refl stand (first_is plan guests (guest_is (vps_before plan (suc phase)) Opened) (guest_before (vps_before plan (suc phase)) plan phase) phase os planned in_plan refl stand) in
     record {
@@ -222,31 +203,17 @@ behind plan phase part P in_plan is next last =
 pub guest_begins_so : (plan : BusPlan) (logs : Logs) (before : Option Part) (awaits : GuestWait) (version : Option Version) (channels : List Channel) (part : Part) → IsPlan plan → GuestStands plan before awaits version channels
     → can_begin (a_guest plan logs before awaits version channels) ≡ true → part_after plan before ≡ Some part → GuestBegun plan (a_guest plan logs before awaits version channels) part
 guest_begins_so plan logs before awaits version channels part planned fresh can is = let same_part : Contact ≡ part = cc in subst (GuestBegun plan (a_guest plan logs None Nothing None [])) same_part (guest_contact plan logs planned)
-guest_begins_so plan logs before awaits version channels part planned (proposes v tries) can is = absurd (cc)
-guest_begins_so plan logs before awaits version channels part planned (asks v n agreed few) can is = absurd (cc)
 guest_begins_so plan logs before awaits version channels part planned (contacted v cs meet) can is =
-    let some = planned.some in
     let same_part : PhaseStart 0 ≡ part = cc in
-    subst (GuestBegun plan (a_guest plan logs (Some Contact) Nothing (Some v) cs)) same_part (guest_phase plan logs (Some Contact) v cs 0 planned (omega (arith, some)) meet refl refl)
-guest_begins_so plan logs before awaits version channels part planned (offers v cs phase place done first offered o left at is_first subs meet) can is = absurd (cc)
-guest_begins_so plan logs before awaits version channels part planned (dials v cs phase place done o left at asked meet) can is = absurd (cc)
-guest_begins_so plan logs before awaits version channels part planned (lists v cs phase place done o left at meet) can is = absurd (cc)
-guest_begins_so plan logs before awaits version channels part planned (opens v cs phase place done o left at meet) can is = absurd (cc)
-guest_begins_so plan logs before awaits version channels part planned (fills v cs phase place done o left k at has meet) can is = absurd (cc)
-guest_begins_so plan logs before awaits version channels part planned (moves v cs phase place done o left in_plan ms at answers meet) can is = absurd (cc)
+    subst (GuestBegun plan (a_guest plan logs (Some Contact) Nothing (Some v) cs)) same_part (guest_phase plan logs (Some Contact) v cs 0 planned (omega (arith, planned.some)) meet refl refl)
 guest_begins_so plan logs before awaits version channels part planned (started v cs phase in_plan meet) can is =
     let same_part : PhaseEnd phase ≡ part = cc in
     subst (GuestBegun plan (a_guest plan logs (Some (PhaseStart phase)) Nothing (Some v) cs)) same_part (guest_end plan logs v cs phase planned in_plan meet)
-guest_begins_so plan logs before awaits version channels part planned (empties v cs phase place done o left k at closed has meet) can is = absurd (cc)
-guest_begins_so plan logs before awaits version channels part planned (closes v cs phase place done o left at closed meet) can is = absurd (cc)
-guest_begins_so plan logs before awaits version channels part planned (gives_back v cs phase place done o left at gone meet) can is = absurd (cc)
-guest_begins_so plan logs before awaits version channels part planned (gives_sub_back v cs phase place done o left at closed sub meet) can is = absurd (cc)
 guest_begins_so plan logs before awaits version channels part planned (ended v cs phase in_plan meet) can is =
     behind plan phase part (GuestBegun plan (a_guest plan logs (Some (PhaseEnd phase)) Nothing (Some v) cs)) in_plan is
     (λ less. guest_phase plan logs (Some (PhaseEnd phase)) v cs (suc phase) planned less meet refl refl)
     (λ last. guest_unload plan logs (Some (PhaseEnd phase)) v cs planned (subst (λ n. Meet plan v cs (offered_before plan n) (guest_before (vps_before plan n) plan n)) last meet) (ap (guest_from plan) last ∙ guest_at_last plan) (ap (host_from plan) last ∙ host_at_last plan))
-guest_begins_so plan logs before awaits version channels part planned (leaves v cs meet) can is = absurd (cc)
-guest_begins_so plan logs before awaits version channels part planned (is_over v cs meet) can is = absurd (cc)
+guest_begins_so plan logs before awaits version channels part planned _ can is = absurd (cc)
 
 -- while a host waits for nothing, no version is still to be tried, and no piece is to come
 pub record HostBeginsSo (plan : BusPlan) (h : HostSeen) (tried : List ℕ) (pieces : List Msg) (part : Part) : Type 0 where
@@ -264,30 +231,17 @@ host_begins_so plan logs before awaits version channels assembly tried pieces pa
     let h : HostSeen = a_host plan logs None HostNothing None [] (live_ones []) in
     let same_part : Contact ≡ part = cc in
     so plan h part (subst (HostBegun plan h) same_part (host_contact plan logs planned))
-host_begins_so plan logs before awaits version channels assembly tried pieces part planned (IsAnswering v tries) can is = absurd (cc)
-host_begins_so plan logs before awaits version channels assembly tried pieces part planned (IsAccepting v agreed) can is = absurd (cc)
 host_begins_so plan logs before awaits version channels assembly tried pieces part planned (IsContacted v cs meet) can is =
-    let some = planned.some in
     let h : HostSeen = a_host plan logs (Some Contact) HostNothing (Some v) cs (live_ones []) in
     let same_part : PhaseStart 0 ≡ part = cc in
-    so plan h part (subst (HostBegun plan h) same_part (host_phase plan logs (Some Contact) v cs 0 planned (omega (arith, some)) meet refl refl))
-host_begins_so plan logs before awaits version channels assembly tried pieces part planned (IsConnecting v cs phase place done o left at asked meet) can is = absurd (cc)
-host_begins_so plan logs before awaits version channels assembly tried pieces part planned (IsListing v cs phase place done o left s m ms at meet list) can is = absurd (cc)
-host_begins_so plan logs before awaits version channels assembly tried pieces part planned (IsListed v cs phase place done o left at meet) can is = absurd (cc)
-host_begins_so plan logs before awaits version channels assembly tried pieces part planned (IsFilling v cs phase place done o left k s m ms at has meet list) can is = absurd (cc)
-host_begins_so plan logs before awaits version channels assembly tried pieces part planned (IsMoving v cs phase place done o left in_plan ms at meet) can is = absurd (cc)
+    so plan h part (subst (HostBegun plan h) same_part (host_phase plan logs (Some Contact) v cs 0 planned (omega (arith, planned.some)) meet refl refl))
 host_begins_so plan logs before awaits version channels assembly tried pieces part planned (IsStarted v cs phase in_plan meet) can is =
     let h : HostSeen = a_host plan logs (Some (PhaseStart phase)) HostNothing (Some v) cs (live_ones (handles (phase_of plan phase))) in
     let same_part : PhaseEnd phase ≡ part = cc in
     so plan h part (subst (HostBegun plan h) same_part (host_end plan logs v cs phase planned in_plan meet))
-host_begins_so plan logs before awaits version channels assembly tried pieces part planned (IsEmptying v cs phase place done o left k at closed has meet) can is = absurd (cc)
-host_begins_so plan logs before awaits version channels assembly tried pieces part planned (IsClosing v cs phase place done o left at closed meet) can is = absurd (cc)
-host_begins_so plan logs before awaits version channels assembly tried pieces part planned (IsTearing v cs phase place done o left at closed meet) can is = absurd (cc)
-host_begins_so plan logs before awaits version channels assembly tried pieces part planned (IsTakingBack v cs phase place done o left at gone meet) can is = absurd (cc)
 host_begins_so plan logs before awaits version channels assembly tried pieces part planned (IsEnded v cs phase in_plan meet) can is =
     let h : HostSeen = a_host plan logs (Some (PhaseEnd phase)) HostNothing (Some v) cs (live_ones []) in
     so plan h part (behind plan phase part (HostBegun plan h) in_plan is
     (λ less. host_phase plan logs (Some (PhaseEnd phase)) v cs (suc phase) planned less meet refl refl)
     (λ last. host_unload plan logs (Some (PhaseEnd phase)) v cs planned (subst (λ n. Meet plan v cs (offered_before plan n) (host_before (vps_before plan n) plan n)) last meet) (ap (host_from plan) last ∙ host_at_last plan) (ap (guest_from plan) last ∙ guest_at_last plan)))
-host_begins_so plan logs before awaits version channels assembly tried pieces part planned (IsLeaving v cs meet) can is = absurd (cc)
-host_begins_so plan logs before awaits version channels assembly tried pieces part planned (IsDone v cs meet) can is = absurd (cc)
+host_begins_so plan logs before awaits version channels assembly tried pieces part planned _ can is = absurd (cc)

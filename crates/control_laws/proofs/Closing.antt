@@ -1,8 +1,8 @@
 -- The openings of a phase in the order in which its channels are closed: the same ones, each once.
 use Rattle.std.proofs.Common.{◌≡◌, ◌≢◌, ◌∙◌, ℕ, suc, Bool, true, false, ◌==◌, if◌then◌else◌, List, [], ◌∷◌, ◌++◌, length, refl, sym, ap}
 use Rattle.std.specs.List.{AllByRecursion}
-use Rattle.control_model.specs.declared.opening.Opening.{Opening}
 use Rattle.std.proofs.lemmas.Bool.{eqb-true}
+use Rattle.control_laws.proofs.Words.{Opening}
 use Rattle.control_model.specs.Plan.{is_sub, behind_subs, in_closing_order}
 use Rattle.control_model.specs.Stand.{marked}
 

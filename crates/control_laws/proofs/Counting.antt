@@ -1,26 +1,10 @@
 -- How many messages can be on their way, by where both sides stand: what one has still to hear is what is on its way to it, and what the other has still to say.
-use Rattle.std.proofs.Common.{◌≡◌, ◌≢◌, ◌∙◌, ℕ, zero, suc, ◌+◌, ◌*◌, ◌-◌, ◌<◌, ◌≤◌, ◌&&◌, Bool, true, false, List, [], ◌∷◌, ◌++◌, cond, filter, is_some, length, map, drop, replicate, Option, Some, None, All, if◌then◌else◌, refl, sym, ap, append_assoc, length-append, length-drop, arith}
-use Rattle.std.specs.List.{AllByRecursion, flat_map}
+use Rattle.std.proofs.Common.{◌≡◌, ◌∙◌, ℕ, suc, ◌+◌, ◌-◌, ◌<◌, ◌≤◌, ◌&&◌, Bool, true, false, List, [], ◌∷◌, ◌++◌, cond, filter, is_some, length, map, drop, replicate, Option, if◌then◌else◌, refl, ap, length-append, length-drop, arith}
 use Rattle.std.proofs.lemmas.List.{length-map}
-use Rattle.std.proofs.lemmas.List.Concat.{flat_map-cons}
-use Rattle.std.proofs.lemmas.List.Elements.{All-get_or}
-use Rattle.std.proofs.lemmas.List.FromFn.{length-range_with_len}
-use Rattle.contact.specs.declared.version.Version.{Version}
-use Rattle.contact.specs.declared.part.Part.{Part}
-use Rattle.contact.specs.Versions.{versions_tried, has_modify, answers_modify}
-use Rattle.contact.specs.Classes.{offers_from}
-use Rattle.chan_state.specs.declared.chan_state.ChanState.{ChanState}
-use Rattle.gpadl.specs.Assembly.{Assembly}
-use Rattle.gpadl.specs.Cut.{cut}
-use Rattle.gpadl.proofs.Cutting.{cuts_well}
-use Rattle.vmbus_msg.specs.declared.msg.Msg.{Msg}
-use Rattle.control_model.specs.declared.opening.Opening.{Opening}
-use Rattle.control_model.specs.declared.channel.Channel.{Channel}
-use Rattle.control_model.specs.declared.guest_wait.GuestWait.{GuestWait}
-use Rattle.control_model.specs.declared.host_wait.HostWait.{HostWait}
+use Rattle.control_laws.proofs.Words.{Version, Part, versions_tried, has_modify, answers_modify, offers_from, ChanState, Assembly, Msg, Opening, Channel, GuestWait, HostWait}
 use Rattle.control_model.specs.Plan.{BusPlan, buffer_list, movers, vp_for, IsPlan, phase_of, closing_of}
 use Rattle.control_model.specs.Messages.{propose, request, delivered, pages_from, buffer_pages, modify, modified}
-use Rattle.control_model.specs.Said.{agreed, answer_to, moved, guest_moves, host_moves, guest_closes, host_closes}
+use Rattle.control_model.specs.Said.{agreed, answer_to, moved, guest_moves, host_moves}
 use Rattle.control_model.specs.Guest.{offered_channel, waits_for_nothing}
 use Rattle.control_model.specs.Host.{host_waits_for_nothing}
 use Rattle.control_model.specs.Stand.{Tries, Agreed, handles}
@@ -34,6 +18,7 @@ use Rattle.control_laws.proofs.Vps.{answers_are}
 use Rattle.control_laws.proofs.Rounds.{Talk, GuestIn, HostIn, OnWay, on_way, last_heard, last_asked}
 use Rattle.control_laws.proofs.Starts.{starts, starts_talk, some_answer, phase_small, pieces_few, guest_offers_in, guest_dials_in, guest_lists_in, guest_opens_in, guest_fills_in, host_dials_in, host_lists_in, host_opens_in, host_fills_in}
 use Rattle.control_laws.proofs.Ends.{ends, ends_talk, guest_empties_in, guest_closes_in, guest_gives_in, guest_gives_sub_in, host_empties_in, host_closes_in, host_tears_in, host_takes_in}
+use Rattle.control_laws.proofs.Saying.{guest_onward, host_onward, guest_then, host_then}
 
 -- few messages are on their way: none where both are over, one at least where one isn't, and none to a side that is over
 pub record Near (to_host to_guest : ℕ) (guest_over host_over : Bool) : Type 0 where
@@ -62,11 +47,7 @@ cancel xs ys zs n e = let first = length-append xs zs in let second = length-app
 -- of what both lists end with before that, too
 cancel_both : (xs ms ys ns zs : List Msg) (n : ℕ) → length (xs ++ (ms ++ zs)) ≡ n + length (ys ++ (ns ++ zs)) → length xs + length ms ≡ n + (length ys + length ns)
 cancel_both xs ms ys ns zs n e =
-    let a = length-append xs (ms ++ zs) in
-    let b = length-append ms zs in
-    let c = length-append ys (ns ++ zs) in
-    let d = length-append ns zs in
-    omega (arith, e, a, b, c, d)
+    omega (arith, e, length-append xs (ms ++ zs), length-append ms zs, length-append ys (ns ++ zs), length-append ns zs)
 
 -- how many channels a phase moves: the guest says as many messages, and the host as many where it answers, and none otherwise
 filter_few : (test : Opening → Bool) (os : List Opening) → length (filter test os) ≤ length os
@@ -92,12 +73,10 @@ record MovesAt (plan : BusPlan) (os : List Opening) : Type 0 where
 moves_at : (plan : BusPlan) (phase : ℕ) → IsPlan plan → phase < length plan.phases → MovesAt plan (phase_of plan phase)
 moves_at plan phase planned less =
     let os : List Opening = phase_of plan phase in
-    let small = phase_small plan phase planned less in
-    let most = moved_few plan os in
     record {
       asked = length-map (moved plan os) (λ o. modify o.relid (vp_for o));
       answered = one (moved plan os) (answers_modify (agreed plan));
-      few = omega (arith, small, most);
+      few = omega (arith, phase_small plan phase planned less, moved_few plan os);
     }
   where
     one : (ms : List Opening) (b : Bool) → length (if b then map (λ o. modified o.relid) ms else []) ≤ length ms
@@ -114,23 +93,17 @@ left_from : (plan : BusPlan) (os done : List Opening) (o : Opening) (left : List
 left_from plan os done o left place is at =
     let whole = ap length is in
     let both = length-append done (o ∷ left) in
-    let all = length-map (moved plan os) (λ o. modify o.relid (vp_for o)) in
-    let part = length-drop place (guest_moves plan os) in
-    let rest = length-drop place (host_moves plan os) in
     record {
       less = omega (arith, whole, both, at);
-      asked = omega (arith, whole, both, at, all, part);
-      answered = omega (arith, rest);
+      asked = omega (arith, whole, both, at, (length-map (moved plan os) (λ o. modify o.relid (vp_for o))), length-drop place (guest_moves plan os));
+      answered = omega (arith, length-drop place (host_moves plan os));
     }
 
 -- where the host answers, it has as many answers left as there are channels
 all_answered : (plan : BusPlan) (v : Version) (os : List Opening) (place : ℕ) → IsPlan plan → Agreed plan v → answers_modify v.0 ≡ true → LeftAt plan os place → length (drop place (host_moves plan os)) + place ≡ length (moved plan os)
 all_answered plan v os place planned is answers here =
     let so : host_moves plan os ≡ map (λ (o : Opening). modified o.relid) (moved plan os) = ap (λ b. if b then map (λ (o : Opening). modified o.relid) (moved plan os) else []) (answers_are plan v planned is ∙ answers) in
-    let all = ap length so ∙ length-map (moved plan os) (λ o. modified o.relid) in
-    let part = length-drop place (host_moves plan os) in
-    let less = here.less in
-    omega (arith, all, part, less)
+    omega (arith, (ap length so ∙ length-map (moved plan os) (λ o. modified o.relid)), length-drop place (host_moves plan os), here.less)
 
 -- both sides wait
 both_wait : (a b : ℕ) → OnWay a b → Near a b false false
@@ -187,22 +160,17 @@ record Lengths (plan : BusPlan) (tried : List ℕ) : Type 0 where
 lengths : (plan : BusPlan) (tried : List ℕ) → Lengths plan tried
 lengths plan tried =
     let a = length-append (map propose (drop 1 tried)) (request ∷ []) in
-    let b = length-map (drop 1 tried) propose in
-    let c = length-drop 1 tried in
     let d = length-append (map (answer_to plan) tried) (offers_from 1 plan.kinds ++ delivered ∷ []) in
     let f = length-map tried (answer_to plan) in
     let g = length-append (offers_from 1 plan.kinds) (delivered ∷ []) in
     let h = offers_length 1 plan.kinds in
     let i = length-append (map propose tried) (request ∷ []) in
     let j = length-map tried propose in
-    record { guest_says = omega (arith, a, b, c); host_says = omega (arith, d, f, g, h); host_hears = omega (arith, i, j); all = omega (arith, g, h) }
+    record { guest_says = omega (arith, a, length-map (drop 1 tried) propose, length-drop 1 tried); host_says = omega (arith, d, f, g, h); host_hears = omega (arith, i, j); all = omega (arith, g, h) }
 
 offers_left : (plan : BusPlan) (n : ℕ) → length (offers_from (n + 1) (drop n plan.kinds) ++ delivered ∷ []) ≡ (length plan.kinds - n) + 1
 offers_left plan n =
-    let a = length-append (offers_from (n + 1) (drop n plan.kinds)) (delivered ∷ []) in
-    let b = offers_length (n + 1) (drop n plan.kinds) in
-    let c = length-drop n plan.kinds in
-    omega (arith, a, b, c)
+    omega (arith, length-append (offers_from (n + 1) (drop n plan.kinds)) (delivered ∷ []), offers_length (n + 1) (drop n plan.kinds), length-drop n plan.kinds)
 
 some_tried : (plan : BusPlan) (v : Version) → IsPlan plan → Tries plan v → 1 ≤ length (versions_tried v.0 plan.host.0)
 some_tried plan v planned tries = let first = ap length (first_tried plan v planned tries) in omega (arith, first)
@@ -225,15 +193,12 @@ module _ (plan : BusPlan) (planned : IsPlan plan) (a b : ℕ) where
   response_over : (v : Version) → Tries plan v → 0 ≡ a + length (map propose (drop 1 (versions_tried v.0 plan.host.0)) ++ request ∷ []) → length (map (answer_to plan) (versions_tried v.0 plan.host.0) ++ (offers_from 1 plan.kinds ++ delivered ∷ [])) ≡ b + 0 → Near a b false true
   response_over v tries e f =
       let here = lengths plan (versions_tried v.0 plan.host.0) in
-      let some = some_tried plan v planned tries in
-      absurd (omega (arith, e, some, here.guest_says, here.host_says, here.host_hears, here.all))
+      absurd (omega (arith, e, some_tried plan v planned tries, here.guest_says, here.host_says, here.host_hears, here.all))
 
   offers_contact : (n : ℕ) (u : Version) → Tries plan u → length (map propose (versions_tried u.0 plan.host.0) ++ request ∷ []) ≡ a + 0 → length (offers_from (n + 1) (drop n plan.kinds) ++ delivered ∷ []) ≡ b + length (map (answer_to plan) (versions_tried u.0 plan.host.0) ++ (offers_from 1 plan.kinds ++ delivered ∷ [])) → Near a b false false
   offers_contact n u others e f =
       let there = lengths plan (versions_tried u.0 plan.host.0) in
-      let more = some_tried plan u planned others in
-      let left = offers_left plan n in
-      absurd (omega (arith, e, f, more, left, there.guest_says, there.host_says, there.host_hears, there.all))
+      absurd (omega (arith, e, f, some_tried plan u planned others, offers_left plan n, there.guest_says, there.host_says, there.host_hears, there.all))
 
   offers_request : (n : ℕ) → 1 ≡ a + 0 → length (offers_from (n + 1) (drop n plan.kinds) ++ delivered ∷ []) ≡ b + length (offers_from 1 plan.kinds ++ delivered ∷ []) → Near a b false false
   offers_request n e f =
@@ -250,13 +215,11 @@ module _ (plan : BusPlan) (planned : IsPlan plan) (a b : ℕ) where
   over_contact : (u : Version) → Tries plan u → length (map propose (versions_tried u.0 plan.host.0) ++ request ∷ []) ≡ a + 0 → 0 ≡ b + length (map (answer_to plan) (versions_tried u.0 plan.host.0) ++ (offers_from 1 plan.kinds ++ delivered ∷ [])) → Near a b true false
   over_contact u others e f =
       let there = lengths plan (versions_tried u.0 plan.host.0) in
-      let more = some_tried plan u planned others in
-      absurd (omega (arith, f, more, there.guest_says, there.host_says, there.host_hears, there.all))
+      absurd (omega (arith, f, some_tried plan u planned others, there.guest_says, there.host_says, there.host_hears, there.all))
 
   over_request : (u : Version) → 1 ≡ a + 0 → 0 ≡ b + length (offers_from 1 plan.kinds ++ delivered ∷ []) → Near a b true false
   over_request u e f =
-      let all = (lengths plan []).all in
-      absurd (omega (arith, f, all))
+      absurd (omega (arith, f, (lengths plan []).all))
 
 over_over : (a b n m : ℕ) → n ≡ a + n → m ≡ b + m → Near a b true true
 over_over a b n m e f = both_over a b (omega (arith, e), omega (arith, f))
@@ -275,47 +238,47 @@ near plan part awaits version channels waits agreed lives assembly tried pieces 
 near plan part awaits version channels waits agreed lives assembly tried pieces a b planned (contacted v cs meet) (IsAnswering u others) e f = over_contact plan planned a b u others (cancel (host_contact_to_hear waits tried) (contact_to_say plan awaits) (guest_from plan 0) a e) (cancel (contact_to_hear plan awaits (length channels)) (host_contact_to_say plan waits tried) (host_from plan 0) b f)
 near plan part awaits version channels waits agreed lives assembly tried pieces a b planned (contacted v cs meet) (IsAccepting u ours) e f = over_request plan planned a b u (cancel (host_contact_to_hear waits tried) (contact_to_say plan awaits) (guest_from plan 0) a e) (cancel (contact_to_hear plan awaits (length channels)) (host_contact_to_say plan waits tried) (host_from plan 0) b f)
 near plan part awaits version channels waits agreed lives assembly tried pieces a b planned (contacted v cs meet) (IsContacted u ls ours) e f = over_over a b _ _ e f
-near plan part awaits version channels waits agreed lives assembly tried pieces a b planned (offers v cs phase k done first offered o left at is_first subs meet) (IsConnecting u ls phase2 j before p behind there asked2 ours) e f = both_wait a b (on_way (starts (phase_of plan phase)) a b _ _ _ _ (starts_talk plan phase planned at.in_plan) (guest_offers_in plan phase k done first offered o left planned at is_first subs) (host_dials_in plan phase j before p behind there asked2) (cancel (host_start_to_hear (phase_of plan phase) waits pieces) (start_to_say (phase_of plan phase) awaits) (guest_moves plan (phase_of plan phase) ++ (flat_map guest_closes (closing_of plan phase) ++ guest_from plan (suc phase))) a e) (cancel (start_to_hear (phase_of plan phase) awaits) (host_start_to_say (phase_of plan phase) waits) (host_moves plan (phase_of plan phase) ++ (flat_map host_closes (closing_of plan phase) ++ host_from plan (suc phase))) b f))
-near plan part awaits version channels waits agreed lives assembly tried pieces a b planned (offers v cs phase k done first offered o left at is_first subs meet) (IsListing u ls phase2 j before p behind s m ms there ours list) e f = both_wait a b (on_way (starts (phase_of plan phase)) a b _ _ _ _ (starts_talk plan phase planned at.in_plan) (guest_offers_in plan phase k done first offered o left planned at is_first subs) (host_lists_in plan phase j before p behind there (m ∷ ms) (omega arith) (pieces_few (handles before) p.relid p.gpadl (pages_from p) s m ms list)) (cancel (host_start_to_hear (phase_of plan phase) waits pieces) (start_to_say (phase_of plan phase) awaits) (guest_moves plan (phase_of plan phase) ++ (flat_map guest_closes (closing_of plan phase) ++ guest_from plan (suc phase))) a e) (cancel (start_to_hear (phase_of plan phase) awaits) (host_start_to_say (phase_of plan phase) waits) (host_moves plan (phase_of plan phase) ++ (flat_map host_closes (closing_of plan phase) ++ host_from plan (suc phase))) b f))
-near plan part awaits version channels waits agreed lives assembly tried pieces a b planned (offers v cs phase k done first offered o left at is_first subs meet) (IsListed u ls phase2 j before p behind there ours) e f = both_wait a b (on_way (starts (phase_of plan phase)) a b _ _ _ _ (starts_talk plan phase planned at.in_plan) (guest_offers_in plan phase k done first offered o left planned at is_first subs) (host_opens_in plan phase j before p behind there) (cancel (host_start_to_hear (phase_of plan phase) waits pieces) (start_to_say (phase_of plan phase) awaits) (guest_moves plan (phase_of plan phase) ++ (flat_map guest_closes (closing_of plan phase) ++ guest_from plan (suc phase))) a e) (cancel (start_to_hear (phase_of plan phase) awaits) (host_start_to_say (phase_of plan phase) waits) (host_moves plan (phase_of plan phase) ++ (flat_map host_closes (closing_of plan phase) ++ host_from plan (suc phase))) b f))
-near plan part awaits version channels waits agreed lives assembly tried pieces a b planned (offers v cs phase k done first offered o left at is_first subs meet) (IsFilling u ls phase2 j before p behind h s m ms there has2 ours list) e f = both_wait a b (on_way (starts (phase_of plan phase)) a b _ _ _ _ (starts_talk plan phase planned at.in_plan) (guest_offers_in plan phase k done first offered o left planned at is_first subs) (host_fills_in plan phase j before p behind there h (m ∷ ms) planned has2 (omega arith) (pieces_few (handles before ++ lists_before p h) p.relid (buffer_list p h) (buffer_pages p h) s m ms list)) (cancel (host_start_to_hear (phase_of plan phase) waits pieces) (start_to_say (phase_of plan phase) awaits) (guest_moves plan (phase_of plan phase) ++ (flat_map guest_closes (closing_of plan phase) ++ guest_from plan (suc phase))) a e) (cancel (start_to_hear (phase_of plan phase) awaits) (host_start_to_say (phase_of plan phase) waits) (host_moves plan (phase_of plan phase) ++ (flat_map host_closes (closing_of plan phase) ++ host_from plan (suc phase))) b f))
-near plan part awaits version channels waits agreed lives assembly tried pieces a b planned (offers v cs phase k done first offered o left at is_first subs meet) (IsMoving u ls phase2 j before p behind in_plan2 ms there ours) e f = asked_moving (phase_of plan phase) a b (starts_talk plan phase planned at.in_plan) plan j _ _ (moves_at plan phase planned at.in_plan) (guest_offers_in plan phase k done first offered o left planned at is_first subs) (left_from plan (phase_of plan phase) before p behind j ms there) (cancel_both (host_start_to_hear (phase_of plan phase) waits pieces) (host_moves_to_hear plan (phase_of plan phase) waits) (start_to_say (phase_of plan phase) awaits) (moves_to_say plan (phase_of plan phase) awaits) (flat_map guest_closes (closing_of plan phase) ++ guest_from plan (suc phase)) a e) (cancel_both (start_to_hear (phase_of plan phase) awaits) (moves_to_hear plan (phase_of plan phase) awaits) (host_start_to_say (phase_of plan phase) waits) (host_moves_to_say plan (phase_of plan phase) waits) (flat_map host_closes (closing_of plan phase) ++ host_from plan (suc phase)) b f)
-near plan part awaits version channels waits agreed lives assembly tried pieces a b planned (offers v cs phase k done first offered o left at is_first subs meet) (IsStarted u ls phase2 in_plan2 ours) e f = asked_started (phase_of plan phase) a b (starts_talk plan phase planned at.in_plan) plan _ _ (moves_at plan phase planned at.in_plan) (guest_offers_in plan phase k done first offered o left planned at is_first subs) (cancel_both (host_start_to_hear (phase_of plan phase) waits pieces) (host_moves_to_hear plan (phase_of plan phase) waits) (start_to_say (phase_of plan phase) awaits) (moves_to_say plan (phase_of plan phase) awaits) (flat_map guest_closes (closing_of plan phase) ++ guest_from plan (suc phase)) a e) (cancel_both (start_to_hear (phase_of plan phase) awaits) (moves_to_hear plan (phase_of plan phase) awaits) (host_start_to_say (phase_of plan phase) waits) (host_moves_to_say plan (phase_of plan phase) waits) (flat_map host_closes (closing_of plan phase) ++ host_from plan (suc phase)) b f)
-near plan part awaits version channels waits agreed lives assembly tried pieces a b planned (asks_for v cs phase k done o left at asked meet) (IsConnecting u ls phase2 j before p behind there asked2 ours) e f = both_wait a b (on_way (starts (phase_of plan phase)) a b _ _ _ _ (starts_talk plan phase planned at.in_plan) (guest_dials_in plan phase k done o left at asked) (host_dials_in plan phase j before p behind there asked2) (cancel (host_start_to_hear (phase_of plan phase) waits pieces) (start_to_say (phase_of plan phase) awaits) (guest_moves plan (phase_of plan phase) ++ (flat_map guest_closes (closing_of plan phase) ++ guest_from plan (suc phase))) a e) (cancel (start_to_hear (phase_of plan phase) awaits) (host_start_to_say (phase_of plan phase) waits) (host_moves plan (phase_of plan phase) ++ (flat_map host_closes (closing_of plan phase) ++ host_from plan (suc phase))) b f))
-near plan part awaits version channels waits agreed lives assembly tried pieces a b planned (asks_for v cs phase k done o left at asked meet) (IsListing u ls phase2 j before p behind s m ms there ours list) e f = both_wait a b (on_way (starts (phase_of plan phase)) a b _ _ _ _ (starts_talk plan phase planned at.in_plan) (guest_dials_in plan phase k done o left at asked) (host_lists_in plan phase j before p behind there (m ∷ ms) (omega arith) (pieces_few (handles before) p.relid p.gpadl (pages_from p) s m ms list)) (cancel (host_start_to_hear (phase_of plan phase) waits pieces) (start_to_say (phase_of plan phase) awaits) (guest_moves plan (phase_of plan phase) ++ (flat_map guest_closes (closing_of plan phase) ++ guest_from plan (suc phase))) a e) (cancel (start_to_hear (phase_of plan phase) awaits) (host_start_to_say (phase_of plan phase) waits) (host_moves plan (phase_of plan phase) ++ (flat_map host_closes (closing_of plan phase) ++ host_from plan (suc phase))) b f))
-near plan part awaits version channels waits agreed lives assembly tried pieces a b planned (asks_for v cs phase k done o left at asked meet) (IsListed u ls phase2 j before p behind there ours) e f = both_wait a b (on_way (starts (phase_of plan phase)) a b _ _ _ _ (starts_talk plan phase planned at.in_plan) (guest_dials_in plan phase k done o left at asked) (host_opens_in plan phase j before p behind there) (cancel (host_start_to_hear (phase_of plan phase) waits pieces) (start_to_say (phase_of plan phase) awaits) (guest_moves plan (phase_of plan phase) ++ (flat_map guest_closes (closing_of plan phase) ++ guest_from plan (suc phase))) a e) (cancel (start_to_hear (phase_of plan phase) awaits) (host_start_to_say (phase_of plan phase) waits) (host_moves plan (phase_of plan phase) ++ (flat_map host_closes (closing_of plan phase) ++ host_from plan (suc phase))) b f))
-near plan part awaits version channels waits agreed lives assembly tried pieces a b planned (asks_for v cs phase k done o left at asked meet) (IsFilling u ls phase2 j before p behind h s m ms there has2 ours list) e f = both_wait a b (on_way (starts (phase_of plan phase)) a b _ _ _ _ (starts_talk plan phase planned at.in_plan) (guest_dials_in plan phase k done o left at asked) (host_fills_in plan phase j before p behind there h (m ∷ ms) planned has2 (omega arith) (pieces_few (handles before ++ lists_before p h) p.relid (buffer_list p h) (buffer_pages p h) s m ms list)) (cancel (host_start_to_hear (phase_of plan phase) waits pieces) (start_to_say (phase_of plan phase) awaits) (guest_moves plan (phase_of plan phase) ++ (flat_map guest_closes (closing_of plan phase) ++ guest_from plan (suc phase))) a e) (cancel (start_to_hear (phase_of plan phase) awaits) (host_start_to_say (phase_of plan phase) waits) (host_moves plan (phase_of plan phase) ++ (flat_map host_closes (closing_of plan phase) ++ host_from plan (suc phase))) b f))
-near plan part awaits version channels waits agreed lives assembly tried pieces a b planned (asks_for v cs phase k done o left at asked meet) (IsMoving u ls phase2 j before p behind in_plan2 ms there ours) e f = asked_moving (phase_of plan phase) a b (starts_talk plan phase planned at.in_plan) plan j _ _ (moves_at plan phase planned at.in_plan) (guest_dials_in plan phase k done o left at asked) (left_from plan (phase_of plan phase) before p behind j ms there) (cancel_both (host_start_to_hear (phase_of plan phase) waits pieces) (host_moves_to_hear plan (phase_of plan phase) waits) (start_to_say (phase_of plan phase) awaits) (moves_to_say plan (phase_of plan phase) awaits) (flat_map guest_closes (closing_of plan phase) ++ guest_from plan (suc phase)) a e) (cancel_both (start_to_hear (phase_of plan phase) awaits) (moves_to_hear plan (phase_of plan phase) awaits) (host_start_to_say (phase_of plan phase) waits) (host_moves_to_say plan (phase_of plan phase) waits) (flat_map host_closes (closing_of plan phase) ++ host_from plan (suc phase)) b f)
-near plan part awaits version channels waits agreed lives assembly tried pieces a b planned (asks_for v cs phase k done o left at asked meet) (IsStarted u ls phase2 in_plan2 ours) e f = asked_started (phase_of plan phase) a b (starts_talk plan phase planned at.in_plan) plan _ _ (moves_at plan phase planned at.in_plan) (guest_dials_in plan phase k done o left at asked) (cancel_both (host_start_to_hear (phase_of plan phase) waits pieces) (host_moves_to_hear plan (phase_of plan phase) waits) (start_to_say (phase_of plan phase) awaits) (moves_to_say plan (phase_of plan phase) awaits) (flat_map guest_closes (closing_of plan phase) ++ guest_from plan (suc phase)) a e) (cancel_both (start_to_hear (phase_of plan phase) awaits) (moves_to_hear plan (phase_of plan phase) awaits) (host_start_to_say (phase_of plan phase) waits) (host_moves_to_say plan (phase_of plan phase) waits) (flat_map host_closes (closing_of plan phase) ++ host_from plan (suc phase)) b f)
-near plan part awaits version channels waits agreed lives assembly tried pieces a b planned (lists v cs phase k done o left at meet) (IsConnecting u ls phase2 j before p behind there asked2 ours) e f = both_wait a b (on_way (starts (phase_of plan phase)) a b _ _ _ _ (starts_talk plan phase planned at.in_plan) (guest_lists_in plan phase k done o left at) (host_dials_in plan phase j before p behind there asked2) (cancel (host_start_to_hear (phase_of plan phase) waits pieces) (start_to_say (phase_of plan phase) awaits) (guest_moves plan (phase_of plan phase) ++ (flat_map guest_closes (closing_of plan phase) ++ guest_from plan (suc phase))) a e) (cancel (start_to_hear (phase_of plan phase) awaits) (host_start_to_say (phase_of plan phase) waits) (host_moves plan (phase_of plan phase) ++ (flat_map host_closes (closing_of plan phase) ++ host_from plan (suc phase))) b f))
-near plan part awaits version channels waits agreed lives assembly tried pieces a b planned (lists v cs phase k done o left at meet) (IsListing u ls phase2 j before p behind s m ms there ours list) e f = both_wait a b (on_way (starts (phase_of plan phase)) a b _ _ _ _ (starts_talk plan phase planned at.in_plan) (guest_lists_in plan phase k done o left at) (host_lists_in plan phase j before p behind there (m ∷ ms) (omega arith) (pieces_few (handles before) p.relid p.gpadl (pages_from p) s m ms list)) (cancel (host_start_to_hear (phase_of plan phase) waits pieces) (start_to_say (phase_of plan phase) awaits) (guest_moves plan (phase_of plan phase) ++ (flat_map guest_closes (closing_of plan phase) ++ guest_from plan (suc phase))) a e) (cancel (start_to_hear (phase_of plan phase) awaits) (host_start_to_say (phase_of plan phase) waits) (host_moves plan (phase_of plan phase) ++ (flat_map host_closes (closing_of plan phase) ++ host_from plan (suc phase))) b f))
-near plan part awaits version channels waits agreed lives assembly tried pieces a b planned (lists v cs phase k done o left at meet) (IsListed u ls phase2 j before p behind there ours) e f = both_wait a b (on_way (starts (phase_of plan phase)) a b _ _ _ _ (starts_talk plan phase planned at.in_plan) (guest_lists_in plan phase k done o left at) (host_opens_in plan phase j before p behind there) (cancel (host_start_to_hear (phase_of plan phase) waits pieces) (start_to_say (phase_of plan phase) awaits) (guest_moves plan (phase_of plan phase) ++ (flat_map guest_closes (closing_of plan phase) ++ guest_from plan (suc phase))) a e) (cancel (start_to_hear (phase_of plan phase) awaits) (host_start_to_say (phase_of plan phase) waits) (host_moves plan (phase_of plan phase) ++ (flat_map host_closes (closing_of plan phase) ++ host_from plan (suc phase))) b f))
-near plan part awaits version channels waits agreed lives assembly tried pieces a b planned (lists v cs phase k done o left at meet) (IsFilling u ls phase2 j before p behind h s m ms there has2 ours list) e f = both_wait a b (on_way (starts (phase_of plan phase)) a b _ _ _ _ (starts_talk plan phase planned at.in_plan) (guest_lists_in plan phase k done o left at) (host_fills_in plan phase j before p behind there h (m ∷ ms) planned has2 (omega arith) (pieces_few (handles before ++ lists_before p h) p.relid (buffer_list p h) (buffer_pages p h) s m ms list)) (cancel (host_start_to_hear (phase_of plan phase) waits pieces) (start_to_say (phase_of plan phase) awaits) (guest_moves plan (phase_of plan phase) ++ (flat_map guest_closes (closing_of plan phase) ++ guest_from plan (suc phase))) a e) (cancel (start_to_hear (phase_of plan phase) awaits) (host_start_to_say (phase_of plan phase) waits) (host_moves plan (phase_of plan phase) ++ (flat_map host_closes (closing_of plan phase) ++ host_from plan (suc phase))) b f))
-near plan part awaits version channels waits agreed lives assembly tried pieces a b planned (lists v cs phase k done o left at meet) (IsMoving u ls phase2 j before p behind in_plan2 ms there ours) e f = asked_moving (phase_of plan phase) a b (starts_talk plan phase planned at.in_plan) plan j _ _ (moves_at plan phase planned at.in_plan) (guest_lists_in plan phase k done o left at) (left_from plan (phase_of plan phase) before p behind j ms there) (cancel_both (host_start_to_hear (phase_of plan phase) waits pieces) (host_moves_to_hear plan (phase_of plan phase) waits) (start_to_say (phase_of plan phase) awaits) (moves_to_say plan (phase_of plan phase) awaits) (flat_map guest_closes (closing_of plan phase) ++ guest_from plan (suc phase)) a e) (cancel_both (start_to_hear (phase_of plan phase) awaits) (moves_to_hear plan (phase_of plan phase) awaits) (host_start_to_say (phase_of plan phase) waits) (host_moves_to_say plan (phase_of plan phase) waits) (flat_map host_closes (closing_of plan phase) ++ host_from plan (suc phase)) b f)
-near plan part awaits version channels waits agreed lives assembly tried pieces a b planned (lists v cs phase k done o left at meet) (IsStarted u ls phase2 in_plan2 ours) e f = asked_started (phase_of plan phase) a b (starts_talk plan phase planned at.in_plan) plan _ _ (moves_at plan phase planned at.in_plan) (guest_lists_in plan phase k done o left at) (cancel_both (host_start_to_hear (phase_of plan phase) waits pieces) (host_moves_to_hear plan (phase_of plan phase) waits) (start_to_say (phase_of plan phase) awaits) (moves_to_say plan (phase_of plan phase) awaits) (flat_map guest_closes (closing_of plan phase) ++ guest_from plan (suc phase)) a e) (cancel_both (start_to_hear (phase_of plan phase) awaits) (moves_to_hear plan (phase_of plan phase) awaits) (host_start_to_say (phase_of plan phase) waits) (host_moves_to_say plan (phase_of plan phase) waits) (flat_map host_closes (closing_of plan phase) ++ host_from plan (suc phase)) b f)
-near plan part awaits version channels waits agreed lives assembly tried pieces a b planned (opens v cs phase k done o left at meet) (IsConnecting u ls phase2 j before p behind there asked2 ours) e f = both_wait a b (on_way (starts (phase_of plan phase)) a b _ _ _ _ (starts_talk plan phase planned at.in_plan) (guest_opens_in plan phase k done o left at) (host_dials_in plan phase j before p behind there asked2) (cancel (host_start_to_hear (phase_of plan phase) waits pieces) (start_to_say (phase_of plan phase) awaits) (guest_moves plan (phase_of plan phase) ++ (flat_map guest_closes (closing_of plan phase) ++ guest_from plan (suc phase))) a e) (cancel (start_to_hear (phase_of plan phase) awaits) (host_start_to_say (phase_of plan phase) waits) (host_moves plan (phase_of plan phase) ++ (flat_map host_closes (closing_of plan phase) ++ host_from plan (suc phase))) b f))
-near plan part awaits version channels waits agreed lives assembly tried pieces a b planned (opens v cs phase k done o left at meet) (IsListing u ls phase2 j before p behind s m ms there ours list) e f = both_wait a b (on_way (starts (phase_of plan phase)) a b _ _ _ _ (starts_talk plan phase planned at.in_plan) (guest_opens_in plan phase k done o left at) (host_lists_in plan phase j before p behind there (m ∷ ms) (omega arith) (pieces_few (handles before) p.relid p.gpadl (pages_from p) s m ms list)) (cancel (host_start_to_hear (phase_of plan phase) waits pieces) (start_to_say (phase_of plan phase) awaits) (guest_moves plan (phase_of plan phase) ++ (flat_map guest_closes (closing_of plan phase) ++ guest_from plan (suc phase))) a e) (cancel (start_to_hear (phase_of plan phase) awaits) (host_start_to_say (phase_of plan phase) waits) (host_moves plan (phase_of plan phase) ++ (flat_map host_closes (closing_of plan phase) ++ host_from plan (suc phase))) b f))
-near plan part awaits version channels waits agreed lives assembly tried pieces a b planned (opens v cs phase k done o left at meet) (IsListed u ls phase2 j before p behind there ours) e f = both_wait a b (on_way (starts (phase_of plan phase)) a b _ _ _ _ (starts_talk plan phase planned at.in_plan) (guest_opens_in plan phase k done o left at) (host_opens_in plan phase j before p behind there) (cancel (host_start_to_hear (phase_of plan phase) waits pieces) (start_to_say (phase_of plan phase) awaits) (guest_moves plan (phase_of plan phase) ++ (flat_map guest_closes (closing_of plan phase) ++ guest_from plan (suc phase))) a e) (cancel (start_to_hear (phase_of plan phase) awaits) (host_start_to_say (phase_of plan phase) waits) (host_moves plan (phase_of plan phase) ++ (flat_map host_closes (closing_of plan phase) ++ host_from plan (suc phase))) b f))
-near plan part awaits version channels waits agreed lives assembly tried pieces a b planned (opens v cs phase k done o left at meet) (IsFilling u ls phase2 j before p behind h s m ms there has2 ours list) e f = both_wait a b (on_way (starts (phase_of plan phase)) a b _ _ _ _ (starts_talk plan phase planned at.in_plan) (guest_opens_in plan phase k done o left at) (host_fills_in plan phase j before p behind there h (m ∷ ms) planned has2 (omega arith) (pieces_few (handles before ++ lists_before p h) p.relid (buffer_list p h) (buffer_pages p h) s m ms list)) (cancel (host_start_to_hear (phase_of plan phase) waits pieces) (start_to_say (phase_of plan phase) awaits) (guest_moves plan (phase_of plan phase) ++ (flat_map guest_closes (closing_of plan phase) ++ guest_from plan (suc phase))) a e) (cancel (start_to_hear (phase_of plan phase) awaits) (host_start_to_say (phase_of plan phase) waits) (host_moves plan (phase_of plan phase) ++ (flat_map host_closes (closing_of plan phase) ++ host_from plan (suc phase))) b f))
-near plan part awaits version channels waits agreed lives assembly tried pieces a b planned (opens v cs phase k done o left at meet) (IsMoving u ls phase2 j before p behind in_plan2 ms there ours) e f = asked_moving (phase_of plan phase) a b (starts_talk plan phase planned at.in_plan) plan j _ _ (moves_at plan phase planned at.in_plan) (guest_opens_in plan phase k done o left at) (left_from plan (phase_of plan phase) before p behind j ms there) (cancel_both (host_start_to_hear (phase_of plan phase) waits pieces) (host_moves_to_hear plan (phase_of plan phase) waits) (start_to_say (phase_of plan phase) awaits) (moves_to_say plan (phase_of plan phase) awaits) (flat_map guest_closes (closing_of plan phase) ++ guest_from plan (suc phase)) a e) (cancel_both (start_to_hear (phase_of plan phase) awaits) (moves_to_hear plan (phase_of plan phase) awaits) (host_start_to_say (phase_of plan phase) waits) (host_moves_to_say plan (phase_of plan phase) waits) (flat_map host_closes (closing_of plan phase) ++ host_from plan (suc phase)) b f)
-near plan part awaits version channels waits agreed lives assembly tried pieces a b planned (opens v cs phase k done o left at meet) (IsStarted u ls phase2 in_plan2 ours) e f = asked_started (phase_of plan phase) a b (starts_talk plan phase planned at.in_plan) plan _ _ (moves_at plan phase planned at.in_plan) (guest_opens_in plan phase k done o left at) (cancel_both (host_start_to_hear (phase_of plan phase) waits pieces) (host_moves_to_hear plan (phase_of plan phase) waits) (start_to_say (phase_of plan phase) awaits) (moves_to_say plan (phase_of plan phase) awaits) (flat_map guest_closes (closing_of plan phase) ++ guest_from plan (suc phase)) a e) (cancel_both (start_to_hear (phase_of plan phase) awaits) (moves_to_hear plan (phase_of plan phase) awaits) (host_start_to_say (phase_of plan phase) waits) (host_moves_to_say plan (phase_of plan phase) waits) (flat_map host_closes (closing_of plan phase) ++ host_from plan (suc phase)) b f)
-near plan part awaits version channels waits agreed lives assembly tried pieces a b planned (fills v cs phase k done o left l at has meet) (IsConnecting u ls phase2 j before p behind there asked2 ours) e f = both_wait a b (on_way (starts (phase_of plan phase)) a b _ _ _ _ (starts_talk plan phase planned at.in_plan) (guest_fills_in plan phase k done o left at l planned has) (host_dials_in plan phase j before p behind there asked2) (cancel (host_start_to_hear (phase_of plan phase) waits pieces) (start_to_say (phase_of plan phase) awaits) (guest_moves plan (phase_of plan phase) ++ (flat_map guest_closes (closing_of plan phase) ++ guest_from plan (suc phase))) a e) (cancel (start_to_hear (phase_of plan phase) awaits) (host_start_to_say (phase_of plan phase) waits) (host_moves plan (phase_of plan phase) ++ (flat_map host_closes (closing_of plan phase) ++ host_from plan (suc phase))) b f))
-near plan part awaits version channels waits agreed lives assembly tried pieces a b planned (fills v cs phase k done o left l at has meet) (IsListing u ls phase2 j before p behind s m ms there ours list) e f = both_wait a b (on_way (starts (phase_of plan phase)) a b _ _ _ _ (starts_talk plan phase planned at.in_plan) (guest_fills_in plan phase k done o left at l planned has) (host_lists_in plan phase j before p behind there (m ∷ ms) (omega arith) (pieces_few (handles before) p.relid p.gpadl (pages_from p) s m ms list)) (cancel (host_start_to_hear (phase_of plan phase) waits pieces) (start_to_say (phase_of plan phase) awaits) (guest_moves plan (phase_of plan phase) ++ (flat_map guest_closes (closing_of plan phase) ++ guest_from plan (suc phase))) a e) (cancel (start_to_hear (phase_of plan phase) awaits) (host_start_to_say (phase_of plan phase) waits) (host_moves plan (phase_of plan phase) ++ (flat_map host_closes (closing_of plan phase) ++ host_from plan (suc phase))) b f))
-near plan part awaits version channels waits agreed lives assembly tried pieces a b planned (fills v cs phase k done o left l at has meet) (IsListed u ls phase2 j before p behind there ours) e f = both_wait a b (on_way (starts (phase_of plan phase)) a b _ _ _ _ (starts_talk plan phase planned at.in_plan) (guest_fills_in plan phase k done o left at l planned has) (host_opens_in plan phase j before p behind there) (cancel (host_start_to_hear (phase_of plan phase) waits pieces) (start_to_say (phase_of plan phase) awaits) (guest_moves plan (phase_of plan phase) ++ (flat_map guest_closes (closing_of plan phase) ++ guest_from plan (suc phase))) a e) (cancel (start_to_hear (phase_of plan phase) awaits) (host_start_to_say (phase_of plan phase) waits) (host_moves plan (phase_of plan phase) ++ (flat_map host_closes (closing_of plan phase) ++ host_from plan (suc phase))) b f))
-near plan part awaits version channels waits agreed lives assembly tried pieces a b planned (fills v cs phase k done o left l at has meet) (IsFilling u ls phase2 j before p behind h s m ms there has2 ours list) e f = both_wait a b (on_way (starts (phase_of plan phase)) a b _ _ _ _ (starts_talk plan phase planned at.in_plan) (guest_fills_in plan phase k done o left at l planned has) (host_fills_in plan phase j before p behind there h (m ∷ ms) planned has2 (omega arith) (pieces_few (handles before ++ lists_before p h) p.relid (buffer_list p h) (buffer_pages p h) s m ms list)) (cancel (host_start_to_hear (phase_of plan phase) waits pieces) (start_to_say (phase_of plan phase) awaits) (guest_moves plan (phase_of plan phase) ++ (flat_map guest_closes (closing_of plan phase) ++ guest_from plan (suc phase))) a e) (cancel (start_to_hear (phase_of plan phase) awaits) (host_start_to_say (phase_of plan phase) waits) (host_moves plan (phase_of plan phase) ++ (flat_map host_closes (closing_of plan phase) ++ host_from plan (suc phase))) b f))
-near plan part awaits version channels waits agreed lives assembly tried pieces a b planned (fills v cs phase k done o left l at has meet) (IsMoving u ls phase2 j before p behind in_plan2 ms there ours) e f = asked_moving (phase_of plan phase) a b (starts_talk plan phase planned at.in_plan) plan j _ _ (moves_at plan phase planned at.in_plan) (guest_fills_in plan phase k done o left at l planned has) (left_from plan (phase_of plan phase) before p behind j ms there) (cancel_both (host_start_to_hear (phase_of plan phase) waits pieces) (host_moves_to_hear plan (phase_of plan phase) waits) (start_to_say (phase_of plan phase) awaits) (moves_to_say plan (phase_of plan phase) awaits) (flat_map guest_closes (closing_of plan phase) ++ guest_from plan (suc phase)) a e) (cancel_both (start_to_hear (phase_of plan phase) awaits) (moves_to_hear plan (phase_of plan phase) awaits) (host_start_to_say (phase_of plan phase) waits) (host_moves_to_say plan (phase_of plan phase) waits) (flat_map host_closes (closing_of plan phase) ++ host_from plan (suc phase)) b f)
-near plan part awaits version channels waits agreed lives assembly tried pieces a b planned (fills v cs phase k done o left l at has meet) (IsStarted u ls phase2 in_plan2 ours) e f = asked_started (phase_of plan phase) a b (starts_talk plan phase planned at.in_plan) plan _ _ (moves_at plan phase planned at.in_plan) (guest_fills_in plan phase k done o left at l planned has) (cancel_both (host_start_to_hear (phase_of plan phase) waits pieces) (host_moves_to_hear plan (phase_of plan phase) waits) (start_to_say (phase_of plan phase) awaits) (moves_to_say plan (phase_of plan phase) awaits) (flat_map guest_closes (closing_of plan phase) ++ guest_from plan (suc phase)) a e) (cancel_both (start_to_hear (phase_of plan phase) awaits) (moves_to_hear plan (phase_of plan phase) awaits) (host_start_to_say (phase_of plan phase) waits) (host_moves_to_say plan (phase_of plan phase) waits) (flat_map host_closes (closing_of plan phase) ++ host_from plan (suc phase)) b f)
-near plan part awaits version channels waits agreed lives assembly tried pieces a b planned (moves v cs phase k done o left in_plan is at answers meet) (IsConnecting u ls phase2 j before p behind there asked2 ours) e f = moved_asked (phase_of plan phase) a b (starts_talk plan phase planned in_plan) plan k _ _ (left_from plan (phase_of plan phase) done o left k is at) (host_dials_in plan phase j before p behind there asked2) (cancel_both (start_to_hear (phase_of plan phase) awaits) (moves_to_hear plan (phase_of plan phase) awaits) (host_start_to_say (phase_of plan phase) waits) (host_moves_to_say plan (phase_of plan phase) waits) (flat_map host_closes (closing_of plan phase) ++ host_from plan (suc phase)) b f)
-near plan part awaits version channels waits agreed lives assembly tried pieces a b planned (moves v cs phase k done o left in_plan is at answers meet) (IsListing u ls phase2 j before p behind s m ms there ours list) e f = moved_asked (phase_of plan phase) a b (starts_talk plan phase planned in_plan) plan k _ _ (left_from plan (phase_of plan phase) done o left k is at) (host_lists_in plan phase j before p behind there (m ∷ ms) (omega arith) (pieces_few (handles before) p.relid p.gpadl (pages_from p) s m ms list)) (cancel_both (start_to_hear (phase_of plan phase) awaits) (moves_to_hear plan (phase_of plan phase) awaits) (host_start_to_say (phase_of plan phase) waits) (host_moves_to_say plan (phase_of plan phase) waits) (flat_map host_closes (closing_of plan phase) ++ host_from plan (suc phase)) b f)
-near plan part awaits version channels waits agreed lives assembly tried pieces a b planned (moves v cs phase k done o left in_plan is at answers meet) (IsListed u ls phase2 j before p behind there ours) e f = moved_asked (phase_of plan phase) a b (starts_talk plan phase planned in_plan) plan k _ _ (left_from plan (phase_of plan phase) done o left k is at) (host_opens_in plan phase j before p behind there) (cancel_both (start_to_hear (phase_of plan phase) awaits) (moves_to_hear plan (phase_of plan phase) awaits) (host_start_to_say (phase_of plan phase) waits) (host_moves_to_say plan (phase_of plan phase) waits) (flat_map host_closes (closing_of plan phase) ++ host_from plan (suc phase)) b f)
-near plan part awaits version channels waits agreed lives assembly tried pieces a b planned (moves v cs phase k done o left in_plan is at answers meet) (IsFilling u ls phase2 j before p behind h s m ms there has2 ours list) e f = moved_asked (phase_of plan phase) a b (starts_talk plan phase planned in_plan) plan k _ _ (left_from plan (phase_of plan phase) done o left k is at) (host_fills_in plan phase j before p behind there h (m ∷ ms) planned has2 (omega arith) (pieces_few (handles before ++ lists_before p h) p.relid (buffer_list p h) (buffer_pages p h) s m ms list)) (cancel_both (start_to_hear (phase_of plan phase) awaits) (moves_to_hear plan (phase_of plan phase) awaits) (host_start_to_say (phase_of plan phase) waits) (host_moves_to_say plan (phase_of plan phase) waits) (flat_map host_closes (closing_of plan phase) ++ host_from plan (suc phase)) b f)
-near plan part awaits version channels waits agreed lives assembly tried pieces a b planned (moves v cs phase k done o left in_plan is at answers meet) (IsMoving u ls phase2 j before p behind in_plan2 ms there ours) e f = moved_moving (phase_of plan phase) a b (starts_talk plan phase planned in_plan) plan k j (moves_at plan phase planned in_plan) (left_from plan (phase_of plan phase) done o left k is at) (left_from plan (phase_of plan phase) before p behind j ms there) (cancel_both (host_start_to_hear (phase_of plan phase) waits pieces) (host_moves_to_hear plan (phase_of plan phase) waits) (start_to_say (phase_of plan phase) awaits) (moves_to_say plan (phase_of plan phase) awaits) (flat_map guest_closes (closing_of plan phase) ++ guest_from plan (suc phase)) a e) (cancel_both (start_to_hear (phase_of plan phase) awaits) (moves_to_hear plan (phase_of plan phase) awaits) (host_start_to_say (phase_of plan phase) waits) (host_moves_to_say plan (phase_of plan phase) waits) (flat_map host_closes (closing_of plan phase) ++ host_from plan (suc phase)) b f)
-near plan part awaits version channels waits agreed lives assembly tried pieces a b planned (moves v cs phase k done o left in_plan is at answers meet) (IsStarted u ls phase2 in_plan2 ours) e f = moved_started (phase_of plan phase) a b (starts_talk plan phase planned in_plan) plan k (moves_at plan phase planned in_plan) (left_from plan (phase_of plan phase) done o left k is at) (cancel_both (host_start_to_hear (phase_of plan phase) waits pieces) (host_moves_to_hear plan (phase_of plan phase) waits) (start_to_say (phase_of plan phase) awaits) (moves_to_say plan (phase_of plan phase) awaits) (flat_map guest_closes (closing_of plan phase) ++ guest_from plan (suc phase)) a e) (all_answered plan v (phase_of plan phase) k planned meet.agreed answers (left_from plan (phase_of plan phase) done o left k is at)) (cancel_both (start_to_hear (phase_of plan phase) awaits) (moves_to_hear plan (phase_of plan phase) awaits) (host_start_to_say (phase_of plan phase) waits) (host_moves_to_say plan (phase_of plan phase) waits) (flat_map host_closes (closing_of plan phase) ++ host_from plan (suc phase)) b f)
-near plan part awaits version channels waits agreed lives assembly tried pieces a b planned (started v cs phase in_plan meet) (IsConnecting u ls phase2 j before p behind there asked2 ours) e f = started_asked (phase_of plan phase) a b (starts_talk plan phase planned in_plan) _ _ _ (host_dials_in plan phase j before p behind there asked2) (cancel_both (start_to_hear (phase_of plan phase) awaits) (moves_to_hear plan (phase_of plan phase) awaits) (host_start_to_say (phase_of plan phase) waits) (host_moves_to_say plan (phase_of plan phase) waits) (flat_map host_closes (closing_of plan phase) ++ host_from plan (suc phase)) b f)
-near plan part awaits version channels waits agreed lives assembly tried pieces a b planned (started v cs phase in_plan meet) (IsListing u ls phase2 j before p behind s m ms there ours list) e f = started_asked (phase_of plan phase) a b (starts_talk plan phase planned in_plan) _ _ _ (host_lists_in plan phase j before p behind there (m ∷ ms) (omega arith) (pieces_few (handles before) p.relid p.gpadl (pages_from p) s m ms list)) (cancel_both (start_to_hear (phase_of plan phase) awaits) (moves_to_hear plan (phase_of plan phase) awaits) (host_start_to_say (phase_of plan phase) waits) (host_moves_to_say plan (phase_of plan phase) waits) (flat_map host_closes (closing_of plan phase) ++ host_from plan (suc phase)) b f)
-near plan part awaits version channels waits agreed lives assembly tried pieces a b planned (started v cs phase in_plan meet) (IsListed u ls phase2 j before p behind there ours) e f = started_asked (phase_of plan phase) a b (starts_talk plan phase planned in_plan) _ _ _ (host_opens_in plan phase j before p behind there) (cancel_both (start_to_hear (phase_of plan phase) awaits) (moves_to_hear plan (phase_of plan phase) awaits) (host_start_to_say (phase_of plan phase) waits) (host_moves_to_say plan (phase_of plan phase) waits) (flat_map host_closes (closing_of plan phase) ++ host_from plan (suc phase)) b f)
-near plan part awaits version channels waits agreed lives assembly tried pieces a b planned (started v cs phase in_plan meet) (IsFilling u ls phase2 j before p behind h s m ms there has2 ours list) e f = started_asked (phase_of plan phase) a b (starts_talk plan phase planned in_plan) _ _ _ (host_fills_in plan phase j before p behind there h (m ∷ ms) planned has2 (omega arith) (pieces_few (handles before ++ lists_before p h) p.relid (buffer_list p h) (buffer_pages p h) s m ms list)) (cancel_both (start_to_hear (phase_of plan phase) awaits) (moves_to_hear plan (phase_of plan phase) awaits) (host_start_to_say (phase_of plan phase) waits) (host_moves_to_say plan (phase_of plan phase) waits) (flat_map host_closes (closing_of plan phase) ++ host_from plan (suc phase)) b f)
-near plan part awaits version channels waits agreed lives assembly tried pieces a b planned (started v cs phase in_plan meet) (IsMoving u ls phase2 j before p behind in_plan2 ms there ours) e f = started_moving (phase_of plan phase) a b (starts_talk plan phase planned in_plan) plan j (moves_at plan phase planned in_plan) (left_from plan (phase_of plan phase) before p behind j ms there) (cancel_both (host_start_to_hear (phase_of plan phase) waits pieces) (host_moves_to_hear plan (phase_of plan phase) waits) (start_to_say (phase_of plan phase) awaits) (moves_to_say plan (phase_of plan phase) awaits) (flat_map guest_closes (closing_of plan phase) ++ guest_from plan (suc phase)) a e) (cancel_both (start_to_hear (phase_of plan phase) awaits) (moves_to_hear plan (phase_of plan phase) awaits) (host_start_to_say (phase_of plan phase) waits) (host_moves_to_say plan (phase_of plan phase) waits) (flat_map host_closes (closing_of plan phase) ++ host_from plan (suc phase)) b f)
+near plan part awaits version channels waits agreed lives assembly tried pieces a b planned (offers v cs phase k done first offered o left at is_first subs meet) (IsConnecting u ls phase2 j before p behind there asked2 ours) e f = both_wait a b (on_way (starts (phase_of plan phase)) a b _ _ _ _ (starts_talk plan phase planned at.in_plan) (guest_offers_in plan phase k done first offered o left planned at is_first subs) (host_dials_in plan phase j before p behind there asked2) (cancel (host_start_to_hear (phase_of plan phase) waits pieces) (start_to_say (phase_of plan phase) awaits) (guest_then plan phase) a e) (cancel (start_to_hear (phase_of plan phase) awaits) (host_start_to_say (phase_of plan phase) waits) (host_then plan phase) b f))
+near plan part awaits version channels waits agreed lives assembly tried pieces a b planned (offers v cs phase k done first offered o left at is_first subs meet) (IsListing u ls phase2 j before p behind s m ms there ours list) e f = both_wait a b (on_way (starts (phase_of plan phase)) a b _ _ _ _ (starts_talk plan phase planned at.in_plan) (guest_offers_in plan phase k done first offered o left planned at is_first subs) (host_lists_in plan phase j before p behind there (m ∷ ms) (omega arith) (pieces_few (handles before) p.relid p.gpadl (pages_from p) s m ms list)) (cancel (host_start_to_hear (phase_of plan phase) waits pieces) (start_to_say (phase_of plan phase) awaits) (guest_then plan phase) a e) (cancel (start_to_hear (phase_of plan phase) awaits) (host_start_to_say (phase_of plan phase) waits) (host_then plan phase) b f))
+near plan part awaits version channels waits agreed lives assembly tried pieces a b planned (offers v cs phase k done first offered o left at is_first subs meet) (IsListed u ls phase2 j before p behind there ours) e f = both_wait a b (on_way (starts (phase_of plan phase)) a b _ _ _ _ (starts_talk plan phase planned at.in_plan) (guest_offers_in plan phase k done first offered o left planned at is_first subs) (host_opens_in plan phase j before p behind there) (cancel (host_start_to_hear (phase_of plan phase) waits pieces) (start_to_say (phase_of plan phase) awaits) (guest_then plan phase) a e) (cancel (start_to_hear (phase_of plan phase) awaits) (host_start_to_say (phase_of plan phase) waits) (host_then plan phase) b f))
+near plan part awaits version channels waits agreed lives assembly tried pieces a b planned (offers v cs phase k done first offered o left at is_first subs meet) (IsFilling u ls phase2 j before p behind h s m ms there has2 ours list) e f = both_wait a b (on_way (starts (phase_of plan phase)) a b _ _ _ _ (starts_talk plan phase planned at.in_plan) (guest_offers_in plan phase k done first offered o left planned at is_first subs) (host_fills_in plan phase j before p behind there h (m ∷ ms) planned has2 (omega arith) (pieces_few (handles before ++ lists_before p h) p.relid (buffer_list p h) (buffer_pages p h) s m ms list)) (cancel (host_start_to_hear (phase_of plan phase) waits pieces) (start_to_say (phase_of plan phase) awaits) (guest_then plan phase) a e) (cancel (start_to_hear (phase_of plan phase) awaits) (host_start_to_say (phase_of plan phase) waits) (host_then plan phase) b f))
+near plan part awaits version channels waits agreed lives assembly tried pieces a b planned (offers v cs phase k done first offered o left at is_first subs meet) (IsMoving u ls phase2 j before p behind in_plan2 ms there ours) e f = asked_moving (phase_of plan phase) a b (starts_talk plan phase planned at.in_plan) plan j _ _ (moves_at plan phase planned at.in_plan) (guest_offers_in plan phase k done first offered o left planned at is_first subs) (left_from plan (phase_of plan phase) before p behind j ms there) (cancel_both (host_start_to_hear (phase_of plan phase) waits pieces) (host_moves_to_hear plan (phase_of plan phase) waits) (start_to_say (phase_of plan phase) awaits) (moves_to_say plan (phase_of plan phase) awaits) (guest_onward plan phase) a e) (cancel_both (start_to_hear (phase_of plan phase) awaits) (moves_to_hear plan (phase_of plan phase) awaits) (host_start_to_say (phase_of plan phase) waits) (host_moves_to_say plan (phase_of plan phase) waits) (host_onward plan phase) b f)
+near plan part awaits version channels waits agreed lives assembly tried pieces a b planned (offers v cs phase k done first offered o left at is_first subs meet) (IsStarted u ls phase2 in_plan2 ours) e f = asked_started (phase_of plan phase) a b (starts_talk plan phase planned at.in_plan) plan _ _ (moves_at plan phase planned at.in_plan) (guest_offers_in plan phase k done first offered o left planned at is_first subs) (cancel_both (host_start_to_hear (phase_of plan phase) waits pieces) (host_moves_to_hear plan (phase_of plan phase) waits) (start_to_say (phase_of plan phase) awaits) (moves_to_say plan (phase_of plan phase) awaits) (guest_onward plan phase) a e) (cancel_both (start_to_hear (phase_of plan phase) awaits) (moves_to_hear plan (phase_of plan phase) awaits) (host_start_to_say (phase_of plan phase) waits) (host_moves_to_say plan (phase_of plan phase) waits) (host_onward plan phase) b f)
+near plan part awaits version channels waits agreed lives assembly tried pieces a b planned (asks_for v cs phase k done o left at asked meet) (IsConnecting u ls phase2 j before p behind there asked2 ours) e f = both_wait a b (on_way (starts (phase_of plan phase)) a b _ _ _ _ (starts_talk plan phase planned at.in_plan) (guest_dials_in plan phase k done o left at asked) (host_dials_in plan phase j before p behind there asked2) (cancel (host_start_to_hear (phase_of plan phase) waits pieces) (start_to_say (phase_of plan phase) awaits) (guest_then plan phase) a e) (cancel (start_to_hear (phase_of plan phase) awaits) (host_start_to_say (phase_of plan phase) waits) (host_then plan phase) b f))
+near plan part awaits version channels waits agreed lives assembly tried pieces a b planned (asks_for v cs phase k done o left at asked meet) (IsListing u ls phase2 j before p behind s m ms there ours list) e f = both_wait a b (on_way (starts (phase_of plan phase)) a b _ _ _ _ (starts_talk plan phase planned at.in_plan) (guest_dials_in plan phase k done o left at asked) (host_lists_in plan phase j before p behind there (m ∷ ms) (omega arith) (pieces_few (handles before) p.relid p.gpadl (pages_from p) s m ms list)) (cancel (host_start_to_hear (phase_of plan phase) waits pieces) (start_to_say (phase_of plan phase) awaits) (guest_then plan phase) a e) (cancel (start_to_hear (phase_of plan phase) awaits) (host_start_to_say (phase_of plan phase) waits) (host_then plan phase) b f))
+near plan part awaits version channels waits agreed lives assembly tried pieces a b planned (asks_for v cs phase k done o left at asked meet) (IsListed u ls phase2 j before p behind there ours) e f = both_wait a b (on_way (starts (phase_of plan phase)) a b _ _ _ _ (starts_talk plan phase planned at.in_plan) (guest_dials_in plan phase k done o left at asked) (host_opens_in plan phase j before p behind there) (cancel (host_start_to_hear (phase_of plan phase) waits pieces) (start_to_say (phase_of plan phase) awaits) (guest_then plan phase) a e) (cancel (start_to_hear (phase_of plan phase) awaits) (host_start_to_say (phase_of plan phase) waits) (host_then plan phase) b f))
+near plan part awaits version channels waits agreed lives assembly tried pieces a b planned (asks_for v cs phase k done o left at asked meet) (IsFilling u ls phase2 j before p behind h s m ms there has2 ours list) e f = both_wait a b (on_way (starts (phase_of plan phase)) a b _ _ _ _ (starts_talk plan phase planned at.in_plan) (guest_dials_in plan phase k done o left at asked) (host_fills_in plan phase j before p behind there h (m ∷ ms) planned has2 (omega arith) (pieces_few (handles before ++ lists_before p h) p.relid (buffer_list p h) (buffer_pages p h) s m ms list)) (cancel (host_start_to_hear (phase_of plan phase) waits pieces) (start_to_say (phase_of plan phase) awaits) (guest_then plan phase) a e) (cancel (start_to_hear (phase_of plan phase) awaits) (host_start_to_say (phase_of plan phase) waits) (host_then plan phase) b f))
+near plan part awaits version channels waits agreed lives assembly tried pieces a b planned (asks_for v cs phase k done o left at asked meet) (IsMoving u ls phase2 j before p behind in_plan2 ms there ours) e f = asked_moving (phase_of plan phase) a b (starts_talk plan phase planned at.in_plan) plan j _ _ (moves_at plan phase planned at.in_plan) (guest_dials_in plan phase k done o left at asked) (left_from plan (phase_of plan phase) before p behind j ms there) (cancel_both (host_start_to_hear (phase_of plan phase) waits pieces) (host_moves_to_hear plan (phase_of plan phase) waits) (start_to_say (phase_of plan phase) awaits) (moves_to_say plan (phase_of plan phase) awaits) (guest_onward plan phase) a e) (cancel_both (start_to_hear (phase_of plan phase) awaits) (moves_to_hear plan (phase_of plan phase) awaits) (host_start_to_say (phase_of plan phase) waits) (host_moves_to_say plan (phase_of plan phase) waits) (host_onward plan phase) b f)
+near plan part awaits version channels waits agreed lives assembly tried pieces a b planned (asks_for v cs phase k done o left at asked meet) (IsStarted u ls phase2 in_plan2 ours) e f = asked_started (phase_of plan phase) a b (starts_talk plan phase planned at.in_plan) plan _ _ (moves_at plan phase planned at.in_plan) (guest_dials_in plan phase k done o left at asked) (cancel_both (host_start_to_hear (phase_of plan phase) waits pieces) (host_moves_to_hear plan (phase_of plan phase) waits) (start_to_say (phase_of plan phase) awaits) (moves_to_say plan (phase_of plan phase) awaits) (guest_onward plan phase) a e) (cancel_both (start_to_hear (phase_of plan phase) awaits) (moves_to_hear plan (phase_of plan phase) awaits) (host_start_to_say (phase_of plan phase) waits) (host_moves_to_say plan (phase_of plan phase) waits) (host_onward plan phase) b f)
+near plan part awaits version channels waits agreed lives assembly tried pieces a b planned (lists v cs phase k done o left at meet) (IsConnecting u ls phase2 j before p behind there asked2 ours) e f = both_wait a b (on_way (starts (phase_of plan phase)) a b _ _ _ _ (starts_talk plan phase planned at.in_plan) (guest_lists_in plan phase k done o left at) (host_dials_in plan phase j before p behind there asked2) (cancel (host_start_to_hear (phase_of plan phase) waits pieces) (start_to_say (phase_of plan phase) awaits) (guest_then plan phase) a e) (cancel (start_to_hear (phase_of plan phase) awaits) (host_start_to_say (phase_of plan phase) waits) (host_then plan phase) b f))
+near plan part awaits version channels waits agreed lives assembly tried pieces a b planned (lists v cs phase k done o left at meet) (IsListing u ls phase2 j before p behind s m ms there ours list) e f = both_wait a b (on_way (starts (phase_of plan phase)) a b _ _ _ _ (starts_talk plan phase planned at.in_plan) (guest_lists_in plan phase k done o left at) (host_lists_in plan phase j before p behind there (m ∷ ms) (omega arith) (pieces_few (handles before) p.relid p.gpadl (pages_from p) s m ms list)) (cancel (host_start_to_hear (phase_of plan phase) waits pieces) (start_to_say (phase_of plan phase) awaits) (guest_then plan phase) a e) (cancel (start_to_hear (phase_of plan phase) awaits) (host_start_to_say (phase_of plan phase) waits) (host_then plan phase) b f))
+near plan part awaits version channels waits agreed lives assembly tried pieces a b planned (lists v cs phase k done o left at meet) (IsListed u ls phase2 j before p behind there ours) e f = both_wait a b (on_way (starts (phase_of plan phase)) a b _ _ _ _ (starts_talk plan phase planned at.in_plan) (guest_lists_in plan phase k done o left at) (host_opens_in plan phase j before p behind there) (cancel (host_start_to_hear (phase_of plan phase) waits pieces) (start_to_say (phase_of plan phase) awaits) (guest_then plan phase) a e) (cancel (start_to_hear (phase_of plan phase) awaits) (host_start_to_say (phase_of plan phase) waits) (host_then plan phase) b f))
+near plan part awaits version channels waits agreed lives assembly tried pieces a b planned (lists v cs phase k done o left at meet) (IsFilling u ls phase2 j before p behind h s m ms there has2 ours list) e f = both_wait a b (on_way (starts (phase_of plan phase)) a b _ _ _ _ (starts_talk plan phase planned at.in_plan) (guest_lists_in plan phase k done o left at) (host_fills_in plan phase j before p behind there h (m ∷ ms) planned has2 (omega arith) (pieces_few (handles before ++ lists_before p h) p.relid (buffer_list p h) (buffer_pages p h) s m ms list)) (cancel (host_start_to_hear (phase_of plan phase) waits pieces) (start_to_say (phase_of plan phase) awaits) (guest_then plan phase) a e) (cancel (start_to_hear (phase_of plan phase) awaits) (host_start_to_say (phase_of plan phase) waits) (host_then plan phase) b f))
+near plan part awaits version channels waits agreed lives assembly tried pieces a b planned (lists v cs phase k done o left at meet) (IsMoving u ls phase2 j before p behind in_plan2 ms there ours) e f = asked_moving (phase_of plan phase) a b (starts_talk plan phase planned at.in_plan) plan j _ _ (moves_at plan phase planned at.in_plan) (guest_lists_in plan phase k done o left at) (left_from plan (phase_of plan phase) before p behind j ms there) (cancel_both (host_start_to_hear (phase_of plan phase) waits pieces) (host_moves_to_hear plan (phase_of plan phase) waits) (start_to_say (phase_of plan phase) awaits) (moves_to_say plan (phase_of plan phase) awaits) (guest_onward plan phase) a e) (cancel_both (start_to_hear (phase_of plan phase) awaits) (moves_to_hear plan (phase_of plan phase) awaits) (host_start_to_say (phase_of plan phase) waits) (host_moves_to_say plan (phase_of plan phase) waits) (host_onward plan phase) b f)
+near plan part awaits version channels waits agreed lives assembly tried pieces a b planned (lists v cs phase k done o left at meet) (IsStarted u ls phase2 in_plan2 ours) e f = asked_started (phase_of plan phase) a b (starts_talk plan phase planned at.in_plan) plan _ _ (moves_at plan phase planned at.in_plan) (guest_lists_in plan phase k done o left at) (cancel_both (host_start_to_hear (phase_of plan phase) waits pieces) (host_moves_to_hear plan (phase_of plan phase) waits) (start_to_say (phase_of plan phase) awaits) (moves_to_say plan (phase_of plan phase) awaits) (guest_onward plan phase) a e) (cancel_both (start_to_hear (phase_of plan phase) awaits) (moves_to_hear plan (phase_of plan phase) awaits) (host_start_to_say (phase_of plan phase) waits) (host_moves_to_say plan (phase_of plan phase) waits) (host_onward plan phase) b f)
+near plan part awaits version channels waits agreed lives assembly tried pieces a b planned (opens v cs phase k done o left at meet) (IsConnecting u ls phase2 j before p behind there asked2 ours) e f = both_wait a b (on_way (starts (phase_of plan phase)) a b _ _ _ _ (starts_talk plan phase planned at.in_plan) (guest_opens_in plan phase k done o left at) (host_dials_in plan phase j before p behind there asked2) (cancel (host_start_to_hear (phase_of plan phase) waits pieces) (start_to_say (phase_of plan phase) awaits) (guest_then plan phase) a e) (cancel (start_to_hear (phase_of plan phase) awaits) (host_start_to_say (phase_of plan phase) waits) (host_then plan phase) b f))
+near plan part awaits version channels waits agreed lives assembly tried pieces a b planned (opens v cs phase k done o left at meet) (IsListing u ls phase2 j before p behind s m ms there ours list) e f = both_wait a b (on_way (starts (phase_of plan phase)) a b _ _ _ _ (starts_talk plan phase planned at.in_plan) (guest_opens_in plan phase k done o left at) (host_lists_in plan phase j before p behind there (m ∷ ms) (omega arith) (pieces_few (handles before) p.relid p.gpadl (pages_from p) s m ms list)) (cancel (host_start_to_hear (phase_of plan phase) waits pieces) (start_to_say (phase_of plan phase) awaits) (guest_then plan phase) a e) (cancel (start_to_hear (phase_of plan phase) awaits) (host_start_to_say (phase_of plan phase) waits) (host_then plan phase) b f))
+near plan part awaits version channels waits agreed lives assembly tried pieces a b planned (opens v cs phase k done o left at meet) (IsListed u ls phase2 j before p behind there ours) e f = both_wait a b (on_way (starts (phase_of plan phase)) a b _ _ _ _ (starts_talk plan phase planned at.in_plan) (guest_opens_in plan phase k done o left at) (host_opens_in plan phase j before p behind there) (cancel (host_start_to_hear (phase_of plan phase) waits pieces) (start_to_say (phase_of plan phase) awaits) (guest_then plan phase) a e) (cancel (start_to_hear (phase_of plan phase) awaits) (host_start_to_say (phase_of plan phase) waits) (host_then plan phase) b f))
+near plan part awaits version channels waits agreed lives assembly tried pieces a b planned (opens v cs phase k done o left at meet) (IsFilling u ls phase2 j before p behind h s m ms there has2 ours list) e f = both_wait a b (on_way (starts (phase_of plan phase)) a b _ _ _ _ (starts_talk plan phase planned at.in_plan) (guest_opens_in plan phase k done o left at) (host_fills_in plan phase j before p behind there h (m ∷ ms) planned has2 (omega arith) (pieces_few (handles before ++ lists_before p h) p.relid (buffer_list p h) (buffer_pages p h) s m ms list)) (cancel (host_start_to_hear (phase_of plan phase) waits pieces) (start_to_say (phase_of plan phase) awaits) (guest_then plan phase) a e) (cancel (start_to_hear (phase_of plan phase) awaits) (host_start_to_say (phase_of plan phase) waits) (host_then plan phase) b f))
+near plan part awaits version channels waits agreed lives assembly tried pieces a b planned (opens v cs phase k done o left at meet) (IsMoving u ls phase2 j before p behind in_plan2 ms there ours) e f = asked_moving (phase_of plan phase) a b (starts_talk plan phase planned at.in_plan) plan j _ _ (moves_at plan phase planned at.in_plan) (guest_opens_in plan phase k done o left at) (left_from plan (phase_of plan phase) before p behind j ms there) (cancel_both (host_start_to_hear (phase_of plan phase) waits pieces) (host_moves_to_hear plan (phase_of plan phase) waits) (start_to_say (phase_of plan phase) awaits) (moves_to_say plan (phase_of plan phase) awaits) (guest_onward plan phase) a e) (cancel_both (start_to_hear (phase_of plan phase) awaits) (moves_to_hear plan (phase_of plan phase) awaits) (host_start_to_say (phase_of plan phase) waits) (host_moves_to_say plan (phase_of plan phase) waits) (host_onward plan phase) b f)
+near plan part awaits version channels waits agreed lives assembly tried pieces a b planned (opens v cs phase k done o left at meet) (IsStarted u ls phase2 in_plan2 ours) e f = asked_started (phase_of plan phase) a b (starts_talk plan phase planned at.in_plan) plan _ _ (moves_at plan phase planned at.in_plan) (guest_opens_in plan phase k done o left at) (cancel_both (host_start_to_hear (phase_of plan phase) waits pieces) (host_moves_to_hear plan (phase_of plan phase) waits) (start_to_say (phase_of plan phase) awaits) (moves_to_say plan (phase_of plan phase) awaits) (guest_onward plan phase) a e) (cancel_both (start_to_hear (phase_of plan phase) awaits) (moves_to_hear plan (phase_of plan phase) awaits) (host_start_to_say (phase_of plan phase) waits) (host_moves_to_say plan (phase_of plan phase) waits) (host_onward plan phase) b f)
+near plan part awaits version channels waits agreed lives assembly tried pieces a b planned (fills v cs phase k done o left l at has meet) (IsConnecting u ls phase2 j before p behind there asked2 ours) e f = both_wait a b (on_way (starts (phase_of plan phase)) a b _ _ _ _ (starts_talk plan phase planned at.in_plan) (guest_fills_in plan phase k done o left at l planned has) (host_dials_in plan phase j before p behind there asked2) (cancel (host_start_to_hear (phase_of plan phase) waits pieces) (start_to_say (phase_of plan phase) awaits) (guest_then plan phase) a e) (cancel (start_to_hear (phase_of plan phase) awaits) (host_start_to_say (phase_of plan phase) waits) (host_then plan phase) b f))
+near plan part awaits version channels waits agreed lives assembly tried pieces a b planned (fills v cs phase k done o left l at has meet) (IsListing u ls phase2 j before p behind s m ms there ours list) e f = both_wait a b (on_way (starts (phase_of plan phase)) a b _ _ _ _ (starts_talk plan phase planned at.in_plan) (guest_fills_in plan phase k done o left at l planned has) (host_lists_in plan phase j before p behind there (m ∷ ms) (omega arith) (pieces_few (handles before) p.relid p.gpadl (pages_from p) s m ms list)) (cancel (host_start_to_hear (phase_of plan phase) waits pieces) (start_to_say (phase_of plan phase) awaits) (guest_then plan phase) a e) (cancel (start_to_hear (phase_of plan phase) awaits) (host_start_to_say (phase_of plan phase) waits) (host_then plan phase) b f))
+near plan part awaits version channels waits agreed lives assembly tried pieces a b planned (fills v cs phase k done o left l at has meet) (IsListed u ls phase2 j before p behind there ours) e f = both_wait a b (on_way (starts (phase_of plan phase)) a b _ _ _ _ (starts_talk plan phase planned at.in_plan) (guest_fills_in plan phase k done o left at l planned has) (host_opens_in plan phase j before p behind there) (cancel (host_start_to_hear (phase_of plan phase) waits pieces) (start_to_say (phase_of plan phase) awaits) (guest_then plan phase) a e) (cancel (start_to_hear (phase_of plan phase) awaits) (host_start_to_say (phase_of plan phase) waits) (host_then plan phase) b f))
+near plan part awaits version channels waits agreed lives assembly tried pieces a b planned (fills v cs phase k done o left l at has meet) (IsFilling u ls phase2 j before p behind h s m ms there has2 ours list) e f = both_wait a b (on_way (starts (phase_of plan phase)) a b _ _ _ _ (starts_talk plan phase planned at.in_plan) (guest_fills_in plan phase k done o left at l planned has) (host_fills_in plan phase j before p behind there h (m ∷ ms) planned has2 (omega arith) (pieces_few (handles before ++ lists_before p h) p.relid (buffer_list p h) (buffer_pages p h) s m ms list)) (cancel (host_start_to_hear (phase_of plan phase) waits pieces) (start_to_say (phase_of plan phase) awaits) (guest_then plan phase) a e) (cancel (start_to_hear (phase_of plan phase) awaits) (host_start_to_say (phase_of plan phase) waits) (host_then plan phase) b f))
+near plan part awaits version channels waits agreed lives assembly tried pieces a b planned (fills v cs phase k done o left l at has meet) (IsMoving u ls phase2 j before p behind in_plan2 ms there ours) e f = asked_moving (phase_of plan phase) a b (starts_talk plan phase planned at.in_plan) plan j _ _ (moves_at plan phase planned at.in_plan) (guest_fills_in plan phase k done o left at l planned has) (left_from plan (phase_of plan phase) before p behind j ms there) (cancel_both (host_start_to_hear (phase_of plan phase) waits pieces) (host_moves_to_hear plan (phase_of plan phase) waits) (start_to_say (phase_of plan phase) awaits) (moves_to_say plan (phase_of plan phase) awaits) (guest_onward plan phase) a e) (cancel_both (start_to_hear (phase_of plan phase) awaits) (moves_to_hear plan (phase_of plan phase) awaits) (host_start_to_say (phase_of plan phase) waits) (host_moves_to_say plan (phase_of plan phase) waits) (host_onward plan phase) b f)
+near plan part awaits version channels waits agreed lives assembly tried pieces a b planned (fills v cs phase k done o left l at has meet) (IsStarted u ls phase2 in_plan2 ours) e f = asked_started (phase_of plan phase) a b (starts_talk plan phase planned at.in_plan) plan _ _ (moves_at plan phase planned at.in_plan) (guest_fills_in plan phase k done o left at l planned has) (cancel_both (host_start_to_hear (phase_of plan phase) waits pieces) (host_moves_to_hear plan (phase_of plan phase) waits) (start_to_say (phase_of plan phase) awaits) (moves_to_say plan (phase_of plan phase) awaits) (guest_onward plan phase) a e) (cancel_both (start_to_hear (phase_of plan phase) awaits) (moves_to_hear plan (phase_of plan phase) awaits) (host_start_to_say (phase_of plan phase) waits) (host_moves_to_say plan (phase_of plan phase) waits) (host_onward plan phase) b f)
+near plan part awaits version channels waits agreed lives assembly tried pieces a b planned (moves v cs phase k done o left in_plan is at answers meet) (IsConnecting u ls phase2 j before p behind there asked2 ours) e f = moved_asked (phase_of plan phase) a b (starts_talk plan phase planned in_plan) plan k _ _ (left_from plan (phase_of plan phase) done o left k is at) (host_dials_in plan phase j before p behind there asked2) (cancel_both (start_to_hear (phase_of plan phase) awaits) (moves_to_hear plan (phase_of plan phase) awaits) (host_start_to_say (phase_of plan phase) waits) (host_moves_to_say plan (phase_of plan phase) waits) (host_onward plan phase) b f)
+near plan part awaits version channels waits agreed lives assembly tried pieces a b planned (moves v cs phase k done o left in_plan is at answers meet) (IsListing u ls phase2 j before p behind s m ms there ours list) e f = moved_asked (phase_of plan phase) a b (starts_talk plan phase planned in_plan) plan k _ _ (left_from plan (phase_of plan phase) done o left k is at) (host_lists_in plan phase j before p behind there (m ∷ ms) (omega arith) (pieces_few (handles before) p.relid p.gpadl (pages_from p) s m ms list)) (cancel_both (start_to_hear (phase_of plan phase) awaits) (moves_to_hear plan (phase_of plan phase) awaits) (host_start_to_say (phase_of plan phase) waits) (host_moves_to_say plan (phase_of plan phase) waits) (host_onward plan phase) b f)
+near plan part awaits version channels waits agreed lives assembly tried pieces a b planned (moves v cs phase k done o left in_plan is at answers meet) (IsListed u ls phase2 j before p behind there ours) e f = moved_asked (phase_of plan phase) a b (starts_talk plan phase planned in_plan) plan k _ _ (left_from plan (phase_of plan phase) done o left k is at) (host_opens_in plan phase j before p behind there) (cancel_both (start_to_hear (phase_of plan phase) awaits) (moves_to_hear plan (phase_of plan phase) awaits) (host_start_to_say (phase_of plan phase) waits) (host_moves_to_say plan (phase_of plan phase) waits) (host_onward plan phase) b f)
+near plan part awaits version channels waits agreed lives assembly tried pieces a b planned (moves v cs phase k done o left in_plan is at answers meet) (IsFilling u ls phase2 j before p behind h s m ms there has2 ours list) e f = moved_asked (phase_of plan phase) a b (starts_talk plan phase planned in_plan) plan k _ _ (left_from plan (phase_of plan phase) done o left k is at) (host_fills_in plan phase j before p behind there h (m ∷ ms) planned has2 (omega arith) (pieces_few (handles before ++ lists_before p h) p.relid (buffer_list p h) (buffer_pages p h) s m ms list)) (cancel_both (start_to_hear (phase_of plan phase) awaits) (moves_to_hear plan (phase_of plan phase) awaits) (host_start_to_say (phase_of plan phase) waits) (host_moves_to_say plan (phase_of plan phase) waits) (host_onward plan phase) b f)
+near plan part awaits version channels waits agreed lives assembly tried pieces a b planned (moves v cs phase k done o left in_plan is at answers meet) (IsMoving u ls phase2 j before p behind in_plan2 ms there ours) e f = moved_moving (phase_of plan phase) a b (starts_talk plan phase planned in_plan) plan k j (moves_at plan phase planned in_plan) (left_from plan (phase_of plan phase) done o left k is at) (left_from plan (phase_of plan phase) before p behind j ms there) (cancel_both (host_start_to_hear (phase_of plan phase) waits pieces) (host_moves_to_hear plan (phase_of plan phase) waits) (start_to_say (phase_of plan phase) awaits) (moves_to_say plan (phase_of plan phase) awaits) (guest_onward plan phase) a e) (cancel_both (start_to_hear (phase_of plan phase) awaits) (moves_to_hear plan (phase_of plan phase) awaits) (host_start_to_say (phase_of plan phase) waits) (host_moves_to_say plan (phase_of plan phase) waits) (host_onward plan phase) b f)
+near plan part awaits version channels waits agreed lives assembly tried pieces a b planned (moves v cs phase k done o left in_plan is at answers meet) (IsStarted u ls phase2 in_plan2 ours) e f = moved_started (phase_of plan phase) a b (starts_talk plan phase planned in_plan) plan k (moves_at plan phase planned in_plan) (left_from plan (phase_of plan phase) done o left k is at) (cancel_both (host_start_to_hear (phase_of plan phase) waits pieces) (host_moves_to_hear plan (phase_of plan phase) waits) (start_to_say (phase_of plan phase) awaits) (moves_to_say plan (phase_of plan phase) awaits) (guest_onward plan phase) a e) (all_answered plan v (phase_of plan phase) k planned meet.agreed answers (left_from plan (phase_of plan phase) done o left k is at)) (cancel_both (start_to_hear (phase_of plan phase) awaits) (moves_to_hear plan (phase_of plan phase) awaits) (host_start_to_say (phase_of plan phase) waits) (host_moves_to_say plan (phase_of plan phase) waits) (host_onward plan phase) b f)
+near plan part awaits version channels waits agreed lives assembly tried pieces a b planned (started v cs phase in_plan meet) (IsConnecting u ls phase2 j before p behind there asked2 ours) e f = started_asked (phase_of plan phase) a b (starts_talk plan phase planned in_plan) _ _ _ (host_dials_in plan phase j before p behind there asked2) (cancel_both (start_to_hear (phase_of plan phase) awaits) (moves_to_hear plan (phase_of plan phase) awaits) (host_start_to_say (phase_of plan phase) waits) (host_moves_to_say plan (phase_of plan phase) waits) (host_onward plan phase) b f)
+near plan part awaits version channels waits agreed lives assembly tried pieces a b planned (started v cs phase in_plan meet) (IsListing u ls phase2 j before p behind s m ms there ours list) e f = started_asked (phase_of plan phase) a b (starts_talk plan phase planned in_plan) _ _ _ (host_lists_in plan phase j before p behind there (m ∷ ms) (omega arith) (pieces_few (handles before) p.relid p.gpadl (pages_from p) s m ms list)) (cancel_both (start_to_hear (phase_of plan phase) awaits) (moves_to_hear plan (phase_of plan phase) awaits) (host_start_to_say (phase_of plan phase) waits) (host_moves_to_say plan (phase_of plan phase) waits) (host_onward plan phase) b f)
+near plan part awaits version channels waits agreed lives assembly tried pieces a b planned (started v cs phase in_plan meet) (IsListed u ls phase2 j before p behind there ours) e f = started_asked (phase_of plan phase) a b (starts_talk plan phase planned in_plan) _ _ _ (host_opens_in plan phase j before p behind there) (cancel_both (start_to_hear (phase_of plan phase) awaits) (moves_to_hear plan (phase_of plan phase) awaits) (host_start_to_say (phase_of plan phase) waits) (host_moves_to_say plan (phase_of plan phase) waits) (host_onward plan phase) b f)
+near plan part awaits version channels waits agreed lives assembly tried pieces a b planned (started v cs phase in_plan meet) (IsFilling u ls phase2 j before p behind h s m ms there has2 ours list) e f = started_asked (phase_of plan phase) a b (starts_talk plan phase planned in_plan) _ _ _ (host_fills_in plan phase j before p behind there h (m ∷ ms) planned has2 (omega arith) (pieces_few (handles before ++ lists_before p h) p.relid (buffer_list p h) (buffer_pages p h) s m ms list)) (cancel_both (start_to_hear (phase_of plan phase) awaits) (moves_to_hear plan (phase_of plan phase) awaits) (host_start_to_say (phase_of plan phase) waits) (host_moves_to_say plan (phase_of plan phase) waits) (host_onward plan phase) b f)
+near plan part awaits version channels waits agreed lives assembly tried pieces a b planned (started v cs phase in_plan meet) (IsMoving u ls phase2 j before p behind in_plan2 ms there ours) e f = started_moving (phase_of plan phase) a b (starts_talk plan phase planned in_plan) plan j (moves_at plan phase planned in_plan) (left_from plan (phase_of plan phase) before p behind j ms there) (cancel_both (host_start_to_hear (phase_of plan phase) waits pieces) (host_moves_to_hear plan (phase_of plan phase) waits) (start_to_say (phase_of plan phase) awaits) (moves_to_say plan (phase_of plan phase) awaits) (guest_onward plan phase) a e) (cancel_both (start_to_hear (phase_of plan phase) awaits) (moves_to_hear plan (phase_of plan phase) awaits) (host_start_to_say (phase_of plan phase) waits) (host_moves_to_say plan (phase_of plan phase) waits) (host_onward plan phase) b f)
 near plan part awaits version channels waits agreed lives assembly tried pieces a b planned (started v cs phase in_plan meet) (IsStarted u ls phase2 in_plan2 ours) e f = over_over a b _ _ e f
 near plan part awaits version channels waits agreed lives assembly tried pieces a b planned (empties v cs phase k done o left l at closed has meet) (IsEmptying u ls phase2 j before p behind h there other has2 ours) e f = both_wait a b (on_way (ends (closing_of plan phase)) a b _ _ _ _ (ends_talk (closing_of plan phase)) (guest_empties_in plan phase k done o left at l closed has) (host_empties_in plan phase j before p behind there h other has2) (cancel (host_end_to_hear (closing_of plan phase) waits) (end_to_say (closing_of plan phase) awaits) (guest_from plan (suc phase)) a e) (cancel (end_to_hear (closing_of plan phase) awaits) (host_end_to_say (closing_of plan phase) waits) (host_from plan (suc phase)) b f))
 near plan part awaits version channels waits agreed lives assembly tried pieces a b planned (empties v cs phase k done o left l at closed has meet) (IsClosing u ls phase2 j before p behind there other ours) e f = both_wait a b (on_way (ends (closing_of plan phase)) a b _ _ _ _ (ends_talk (closing_of plan phase)) (guest_empties_in plan phase k done o left at l closed has) (host_closes_in plan phase j before p behind there other) (cancel (host_end_to_hear (closing_of plan phase) waits) (end_to_say (closing_of plan phase) awaits) (guest_from plan (suc phase)) a e) (cancel (end_to_hear (closing_of plan phase) awaits) (host_end_to_say (closing_of plan phase) waits) (host_from plan (suc phase)) b f))

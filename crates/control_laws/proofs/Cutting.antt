@@ -4,7 +4,7 @@ use Rattle.std.specs.List.{AllByRecursion}
 use Rattle.std.proofs.lemmas.List.{append-nil}
 use Rattle.std.proofs.lemmas.List.Elements.{All-head, All-tail}
 use Rattle.std.proofs.Math.Seq.{get_or-append_seam}
-use Rattle.control_model.specs.declared.opening.Opening.{Opening}
+use Rattle.control_laws.proofs.Words.{Opening}
 use Rattle.control_model.specs.Plan.{Rising, all_openings}
 
 pub all_weaker : {X : Type 0} (P Q : X → Type 0) → ((x : X) → P x → Q x) → (xs : List X) → AllByRecursion P xs → AllByRecursion Q xs
@@ -13,6 +13,18 @@ all_weaker P Q f (x ∷ xs) all = (f x all.0, all_weaker P Q f xs all.1)
 
 pub mid : (P : Opening → Type 0) (done : List Opening) (o : Opening) (left : List Opening) → All P (done ++ o ∷ left) → P o
 mid P done o left all = subst P (get_or-append_seam done o left o) (all (length done) o (omega (arith, length-append done (o ∷ left))))
+
+pub both : (P Q R : Opening → Type 0) → ((o : Opening) → P o → Q o → R o) → (os : List Opening) → AllByRecursion P os → AllByRecursion Q os → AllByRecursion R os
+both P Q R f [] p q = tt
+both P Q R f (o ∷ os) p q = (f o p.0 q.0, both P Q R f os p.1 q.1)
+
+pub all_front : {X : Type 0} (P : X → Type 0) (xs ys : List X) → AllByRecursion P (xs ++ ys) → AllByRecursion P xs × AllByRecursion P ys
+all_front P [] ys all = (tt, all)
+all_front P (x ∷ xs) ys all = let rest = all_front P xs ys all.1 in ((all.0, rest.0), rest.1)
+
+pub all_snoc : {X : Type 0} (P : X → Type 0) (xs : List X) (x : X) → AllByRecursion P xs → P x → AllByRecursion P (xs ++ x ∷ [])
+all_snoc P [] x all here = (here, tt)
+all_snoc P (y ∷ xs) x all here = (all.0, all_snoc P xs x all.1 here)
 
 pub mid_all : {X : Type 0} (P : X → Type 0) (done : List X) (o : X) (left : List X) → AllByRecursion P (done ++ o ∷ left) → P o
 mid_all P [] o left all = all.0

@@ -4,30 +4,20 @@ use Rattle.std.specs.List.{AllByRecursion, list_any}
 use Rattle.std.proofs.lemmas.Bool.{eqb-true}
 use Rattle.std.proofs.lemmas.List.{take_all, append-nil}
 use Rattle.std.proofs.lemmas.List.Folds.{list_any-append}
-use Rattle.contact.specs.declared.version.Version.{Version}
-use Rattle.contact.specs.declared.part.Part.{Part}
-use Rattle.contact.specs.declared.part.Part.TheVariants.{Unload}
-use Rattle.chan_state.specs.declared.state.State.{State}
-use Rattle.chan_state.specs.declared.state.State.TheVariants.{Offered, Closed, Released}
-use Rattle.chan_state.specs.declared.chan_state.ChanState.{ChanState}
-use Rattle.gpadl.specs.Assembly.{Assembly}
-use Rattle.vmbus_msg.specs.declared.msg.Msg.{Msg}
-use Rattle.control_model.specs.declared.opening.Opening.{Opening}
-use Rattle.control_model.specs.declared.channel.Channel.{Channel}
-use Rattle.control_model.specs.declared.guest_wait.GuestWait.{GuestWait}
-use Rattle.control_model.specs.declared.host_wait.HostWait.{HostWait}
+use Rattle.control_laws.proofs.Words.{Version, Part, Unload, State, Closed, Released, ChanState, Assembly, Msg, Opening, Channel, GuestWait, HostWait}
+use Rattle.chan_state.specs.declared.state.State.TheVariants.{Offered}
 use Rattle.control_model.specs.Plan.{BusPlan, all_openings, IsPlan, phase_of}
 use Rattle.control_model.specs.Guest.{offered_channel, waits_for_nothing}
 use Rattle.control_model.specs.Host.{offered_life, host_waits_for_nothing}
 use Rattle.control_model.specs.Said.{channel_count, ends_given_back, said_by_guest, said_by_host, last_state, at_end}
 use Rattle.control_model.specs.Stand.{marked, vps_before, before_phase, end_state, guest_ends, host_ends, Stand, Agreed}
 use Rattle.control_model.specs.GuestAt.{to_say, to_hear, GuestStands}
-use Rattle.control_model.specs.GuestAt.GuestStands.{fresh, proposes, asks, contacted, offers, dials, lists, opens, fills, moves, started, empties, closes, gives_back, gives_sub_back, ended, leaves, is_over}
+use Rattle.control_model.specs.GuestAt.GuestStands.{is_over}
 use Rattle.control_model.specs.HostAt.{host_to_say, host_to_hear, HostStands}
-use Rattle.control_model.specs.HostAt.HostStands.{fresh as IsFresh, answers as IsAnswering, accepts as IsAccepting, contacted as IsContacted, connects as IsConnecting, lists as IsListing, listed as IsListed, fills as IsFilling, moves as IsMoving, started as IsStarted, empties as IsEmptying, closes as IsClosing, tears as IsTearing, takes_back as IsTakingBack, ended as IsEnded, leaves as IsLeaving, is_over as IsDone}
+use Rattle.control_model.specs.HostAt.HostStands.{is_over as IsDone}
 use Rattle.control_laws.specs.Over.{vps_at_end}
 use Rattle.control_laws.specs.Sides.{BothOver}
-use Rattle.control_laws.proofs.Marks.{by_test, differ}
+use Rattle.control_laws.proofs.Marks.{by_test, differ, or_false, or_true}
 use Rattle.control_laws.proofs.Plans.{not_given_back}
 use Rattle.control_laws.proofs.Relids.{phase_relids, all_offered}
 use Rattle.control_laws.proofs.Closing.{Distinct}
@@ -63,10 +53,6 @@ marked_state {X} state as_left (o ∷ os) before relid is apart = by_test {P = s
     let none : rescinds_it relid os ≡ false = not_opened relid os (none_opens relid os (all_weaker (λ p. p.relid ≢ o.relid) (λ p. p.relid ≢ relid) (λ p off e. off (e ∙ sym this)) os apart.0)) in
     rw (e, none) (is o ∙ ap end_state (sym (or_false (ends_given_back o)))))
     (λ e. rw e (marked_state state as_left os before relid is apart.1))
-  where
-    or_false : (a : Bool) → (a || false) ≡ a
-    or_false true = refl
-    or_false false = refl
 
 -- the state of a channel, by what earlier phases did and what this one does
 abbrev stands_so : Bool → Bool → State
@@ -80,10 +66,6 @@ both_phases gone opened here_gone false once none = ap (λ b. stands_so b opened
     or_none false b e = e
 both_phases gone opened here_gone true once none = here_so here_gone ∙ ap (λ b. stands_so (b || here_gone) (opened || true)) (sym (once refl))
   where
-    or_true : (a : Bool) → (a || true) ≡ true
-    or_true true = refl
-    or_true false = refl
-
     here_so : (b : Bool) → end_state b ≡ stands_so (false || b) (opened || true)
     here_so true = refl
     here_so false = ap (λ o. stands_so false o) (sym (or_true opened))
@@ -106,11 +88,10 @@ earlier_not plan relid phase zero planned less few here = refl
 earlier_not plan relid phase (suc k) planned less few here =
     let os : List Opening = phase_of plan phase in
     let test : Opening → Bool = λ o. (o.relid == relid) && ends_given_back o in
-    let earlier = earlier_not plan relid phase k planned less (omega (arith, few)) here in
     let all = not_given_back plan k phase planned (omega (arith, few)) less in
     let each = all_weaker (λ q. AllByRecursion (λ p. p.relid ≡ q.relid → ends_given_back q ≡ false) os) (λ q. q.relid ≡ relid → ends_given_back q ≡ false) (λ q a is. matches relid q os here a is) (phase_of plan k) all in
     ap (list_any test) (openings_more plan.phases k (omega (arith, few, less))) ∙ list_any-append test (all_openings (take k plan.phases)) (phase_of plan k)
-    ∙ ap (λ b. b || rescinds_it relid (phase_of plan k)) earlier ∙ none_rescinded relid (phase_of plan k) each
+    ∙ ap (λ b. b || rescinds_it relid (phase_of plan k)) (earlier_not plan relid phase k planned less (omega (arith, few)) here) ∙ none_rescinded relid (phase_of plan k) each
 
 -- the state of a channel before a phase
 before_state : {X : Type 0} (plan : BusPlan) (state : X → State) (as_left : Opening → X) (unopened : X) (phase relid : ℕ) → IsPlan plan → state unopened ≡ Offered → ((o : Opening) → state (as_left o) ≡ end_state (ends_given_back o)) → phase ≤ length plan.phases
@@ -120,14 +101,12 @@ before_state plan state as_left unopened (suc phase) relid planned first is few 
     let less : phase < length plan.phases = omega (arith, few) in
     let os : List Opening = phase_of plan phase in
     let old : List Opening = all_openings (take phase plan.phases) in
-    let earlier = before_state plan state as_left unopened phase relid planned first is (omega (arith, few)) in
     let more : all_openings (take (suc phase) plan.phases) ≡ old ++ os = openings_more plan.phases phase less in
-    let gone : rescinds_it relid (all_openings (take (suc phase) plan.phases)) ≡ (rescinds_it relid old || rescinds_it relid os) = ap (rescinds_it relid) more ∙ list_any-append (λ o. (o.relid == relid) && ends_given_back o) old os in
     let opened : opens_it relid (all_openings (take (suc phase) plan.phases)) ≡ (opens_it relid old || opens_it relid os) = ap (opens_it relid) more ∙ list_any-append (λ o. o.relid == relid) old os in
     marked_state state as_left os (before_phase plan as_left unopened phase) relid is (phase_relids plan phase planned less).distinct
-    ∙ ap (λ s. if opens_it relid os then end_state (rescinds_it relid os) else s) earlier
+    ∙ ap (λ s. if opens_it relid os then end_state (rescinds_it relid os) else s) (before_state plan state as_left unopened phase relid planned first is (omega (arith, few)))
     ∙ both_phases (rescinds_it relid old) (opens_it relid old) (rescinds_it relid os) (opens_it relid os) (λ here. earlier_not plan relid phase phase planned less (omega arith) here) (not_opened relid os)
-    ∙ sym (λ i. stands_so (gone i) (opened i))
+    ∙ sym (λ i. stands_so ((ap (rescinds_it relid) more ∙ list_any-append (λ o. (o.relid == relid) && ends_given_back o) old os) i) (opened i))
 
 at_last : {X : Type 0} (plan : BusPlan) (state : X → State) (as_left : Opening → X) (unopened : X) (relid : ℕ) → IsPlan plan → state unopened ≡ Offered → ((o : Opening) → state (as_left o) ≡ end_state (ends_given_back o))
     → state (before_phase plan as_left unopened (length plan.phases) relid) ≡ last_state plan relid
@@ -147,23 +126,6 @@ record AllOver {X : Type 0} (plan : BusPlan) (version : Option Version) (channel
 
 guest_ended : (plan : BusPlan) (part : Option Part) (awaits : GuestWait) (version : Option Version) (channels : List Channel) → IsPlan plan → GuestStands plan part awaits version channels → part ≡ Some Unload → (is_some part && waits_for_nothing awaits) ≡ true
     → AllOver plan version channels (λ c. c.life.state) (λ c. c.life.vp) (to_say plan part awaits) (to_hear plan part awaits (length channels))
-guest_ended plan part awaits version channels planned fresh last over = absurd (cc)
-guest_ended plan part awaits version channels planned (proposes v tries) last over = absurd (cc)
-guest_ended plan part awaits version channels planned (asks v n agreed few) last over = absurd (cc)
-guest_ended plan part awaits version channels planned (contacted v cs meet) last over = absurd (cc)
-guest_ended plan part awaits version channels planned (offers v cs phase place done first offered o left at one subs meet) last over = absurd (cc)
-guest_ended plan part awaits version channels planned (dials v cs phase place done o left at asked meet) last over = absurd (cc)
-guest_ended plan part awaits version channels planned (lists v cs phase place done o left at meet) last over = absurd (cc)
-guest_ended plan part awaits version channels planned (opens v cs phase place done o left at meet) last over = absurd (cc)
-guest_ended plan part awaits version channels planned (fills v cs phase place done o left k at has meet) last over = absurd (cc)
-guest_ended plan part awaits version channels planned (moves v cs phase place done o left in_plan is at answers meet) last over = absurd (cc)
-guest_ended plan part awaits version channels planned (started v cs phase in_plan meet) last over = absurd (cc)
-guest_ended plan part awaits version channels planned (empties v cs phase place done o left k at closed has meet) last over = absurd (cc)
-guest_ended plan part awaits version channels planned (closes v cs phase place done o left at closed meet) last over = absurd (cc)
-guest_ended plan part awaits version channels planned (gives_back v cs phase place done o left at gone meet) last over = absurd (cc)
-guest_ended plan part awaits version channels planned (gives_sub_back v cs phase place done o left at closed sub meet) last over = absurd (cc)
-guest_ended plan part awaits version channels planned (ended v cs phase in_plan meet) last over = absurd (cc)
-guest_ended plan part awaits version channels planned (leaves v cs meet) last over = absurd (cc)
 guest_ended plan part awaits version channels planned (is_over v cs meet) last over =
     let n : ℕ = length plan.phases in
     let vps : ℕ → ℕ = vps_before plan n in
@@ -178,25 +140,10 @@ guest_ended plan part awaits version channels planned (is_over v cs meet) last o
       no_say = refl;
       no_hear = refl;
     }
+guest_ended plan part awaits version channels planned _ last over = absurd (cc)
 
 host_ended : (plan : BusPlan) (part : Option Part) (awaits : HostWait) (version : Option Version) (channels : List ChanState) (assembly : Assembly) (tried : List ℕ) (pieces : List Msg) → IsPlan plan → HostStands plan part awaits version channels assembly tried pieces
     → part ≡ Some Unload → (is_some part && host_waits_for_nothing awaits) ≡ true → AllOver plan version channels (λ c. c.state) (λ c. c.vp) (host_to_say plan part awaits tried) (host_to_hear plan part awaits tried pieces)
-host_ended plan part awaits version channels assembly tried pieces planned IsFresh last over = absurd (cc)
-host_ended plan part awaits version channels assembly tried pieces planned (IsAnswering v tries) last over = absurd (cc)
-host_ended plan part awaits version channels assembly tried pieces planned (IsAccepting v agreed) last over = absurd (cc)
-host_ended plan part awaits version channels assembly tried pieces planned (IsContacted v cs meet) last over = absurd (cc)
-host_ended plan part awaits version channels assembly tried pieces planned (IsConnecting v cs phase place done o left at asked meet) last over = absurd (cc)
-host_ended plan part awaits version channels assembly tried pieces planned (IsListing v cs phase place done o left s m ms at meet list) last over = absurd (cc)
-host_ended plan part awaits version channels assembly tried pieces planned (IsListed v cs phase place done o left at meet) last over = absurd (cc)
-host_ended plan part awaits version channels assembly tried pieces planned (IsFilling v cs phase place done o left k s m ms at has meet list) last over = absurd (cc)
-host_ended plan part awaits version channels assembly tried pieces planned (IsMoving v cs phase place done o left in_plan is at meet) last over = absurd (cc)
-host_ended plan part awaits version channels assembly tried pieces planned (IsStarted v cs phase in_plan meet) last over = absurd (cc)
-host_ended plan part awaits version channels assembly tried pieces planned (IsEmptying v cs phase place done o left k at closed has meet) last over = absurd (cc)
-host_ended plan part awaits version channels assembly tried pieces planned (IsClosing v cs phase place done o left at closed meet) last over = absurd (cc)
-host_ended plan part awaits version channels assembly tried pieces planned (IsTearing v cs phase place done o left at closed meet) last over = absurd (cc)
-host_ended plan part awaits version channels assembly tried pieces planned (IsTakingBack v cs phase place done o left at gone meet) last over = absurd (cc)
-host_ended plan part awaits version channels assembly tried pieces planned (IsEnded v cs phase in_plan meet) last over = absurd (cc)
-host_ended plan part awaits version channels assembly tried pieces planned (IsLeaving v cs meet) last over = absurd (cc)
 host_ended plan part awaits version channels assembly tried pieces planned (IsDone v cs meet) last over =
     let n : ℕ = length plan.phases in
     let vps : ℕ → ℕ = vps_before plan n in
@@ -211,13 +158,13 @@ host_ended plan part awaits version channels assembly tried pieces planned (IsDo
       no_say = refl;
       no_hear = refl;
     }
+host_ended plan part awaits version channels assembly tried pieces planned _ last over = absurd (cc)
 
 -- how both stand at the end
 pub over_law : BothOver
 over_law plan g h planned guest host guest_part host_part guest_over host_over =
     let here = guest_ended plan g.part g.awaits g.version g.channels planned guest.stands guest_part guest_over in
     let there = host_ended plan h.part h.awaits h.version h.channels h.lists host.tried host.pieces planned host.stands host_part host_over in
-    let one : there.last.0 ≡ here.last.0 = agreed_is plan there.last planned there.agreed ∙ sym (agreed_is plan here.last planned here.agreed) in
     let guest_said : g.posted ≡ said_by_guest plan = sym (guest.said ∙ ap (λ xs. g.posted ++ xs) here.no_say ∙ append-nil g.posted) in
     let guest_fed : g.fed ≡ said_by_host plan = sym (guest.heard ∙ ap (λ xs. g.fed ++ xs) here.no_hear ∙ append-nil g.fed) in
     let host_said : h.posted ≡ said_by_host plan = sym (host.said ∙ ap (λ xs. h.posted ++ xs) there.no_say ∙ append-nil h.posted) in
@@ -230,7 +177,7 @@ over_law plan g h planned guest host guest_part host_part guest_over host_over =
       version = here.last;
       agreed = here.agreed;
       at_guest = here.version_is;
-      at_host = there.version_is ∙ (λ i. Some (record { 0 = one i }));
+      at_host = there.version_is ∙ (λ i. Some (record { 0 = (agreed_is plan there.last planned there.agreed ∙ sym (agreed_is plan here.last planned here.agreed)) i }));
       guest_stands = here.stands;
       host_stands = there.stands;
       guest_vps = here.vps;

@@ -1,23 +1,26 @@
 -- The end of a phase in rounds: how its channels are closed and rescinded by both sides, and where each side stands in that.
-use Rattle.std.proofs.Common.{◌≡◌, ◌∙◌, ℕ, suc, ◌+◌, ◌<◌, ◌≤◌, ◌||◌, Bool, true, false, List, [], ◌∷◌, ◌++◌, length, drop, if◌then◌else◌, refl, sym, ap, append_assoc, length-append, arith}
+use Rattle.std.proofs.Common.{◌≡◌, ◌∙◌, ℕ, suc, ◌+◌, ◌≤◌, ◌||◌, Bool, true, false, List, [], ◌∷◌, ◌++◌, length, drop, if◌then◌else◌, refl, sym, ap, subst, append_assoc, arith}
 use Rattle.std.specs.List.{flat_map}
 use Rattle.std.proofs.lemmas.List.Concat.{flat_map-cons}
-use Rattle.vmbus_msg.specs.declared.msg.Msg.{Msg}
-use Rattle.control_model.specs.declared.opening.Opening.{Opening}
-use Rattle.control_model.specs.declared.buffer.Buffer.{Buffer}
-use Rattle.control_model.specs.declared.buffer.Buffer.TheVariants.{Receive, Send}
+use Rattle.control_laws.proofs.Words.{Msg, Opening, Buffer, Receive, Send}
 use Rattle.control_model.specs.Plan.{BusPlan, buffer_list, is_sub, closing_of}
-use Rattle.control_model.specs.Messages.{teardown_buffer, torndown, rescind, release, farewell}
-use Rattle.control_model.specs.Said.{guest_empties, host_empties, guest_closes, host_closes, only_sub, ends_given_back}
+use Rattle.control_model.specs.Messages.{close, teardown, teardown_buffer, torndown, rescind, release}
+use Rattle.control_model.specs.Said.{guest_closes, host_closes, only_sub, ends_given_back}
 use Rattle.control_model.specs.Stand.{EndsAt}
-use Rattle.control_model.specs.GuestAt.{closes_rings, torn_rings, empties_behind, emptied_behind, empties_left, emptied_left, torn_left, gives_sub, gives_one, takes_one}
+use Rattle.control_model.specs.GuestAt.{empties_left, emptied_left, torn_left, gives_sub, gives_one, takes_one}
 use Rattle.control_model.specs.HostAt.{tears_down, closes_left, tears_left}
 use Rattle.control_laws.proofs.Saying.{ends_left, ends_behind}
-use Rattle.control_laws.proofs.Rounds.{Round, round, asks, answers, asks_join, answers_join, Pair, Talk, Leads, first_by, GuestIn, HostIn, guest_in, host_in}
+use Rattle.control_laws.proofs.Rounds.{Round, round, asks, answers, Pair, Talk, Leads, first_by, GuestIn, HostIn, guest_in, host_in}
 
 -- the rounds of an opening: a channel that is rescinded is taken back, and then given back; the page lists of buffers are torn down, each is answered; a channel is closed, which is answered, and a sub-channel is taken back with that, and then given back
+abbrev first_answers : Bool → ℕ
+first_answers sub = if sub then 2 else 1
+
+abbrev last_rounds : Bool → List Round
+last_rounds sub = if sub then round 1 0 ∷ [] else []
+
 abbrev sub_rounds : Bool → List Round
-sub_rounds sub = if sub then round 2 2 ∷ round 1 0 ∷ [] else round 2 1 ∷ []
+sub_rounds sub = round 2 (first_answers sub) ∷ last_rounds sub
 
 abbrev buffer_rounds : Bool → List Round
 buffer_rounds buffers = if buffers then round 1 1 ∷ round 1 1 ∷ [] else []
@@ -29,66 +32,22 @@ abbrev pub ends : List Opening → List Round
 ends [] = []
 ends (o ∷ os) = end_one o.rescinded o.buffers (is_sub o) ++ ends os
 
--- what a sub-channel has more
-abbrev subs_said : Opening → ℕ
-subs_said o = length (only_sub o farewell)
+-- as many messages an opening has, in front of what is behind it
+asked_one : (m n k c t : Msg) (gone buffers sub : Bool) (xs : List Msg) (rs : List Round) → asks rs ≡ length xs
+    → asks (end_one gone buffers sub ++ rs) ≡ length ((if gone then m ∷ [] else (if buffers then n ∷ k ∷ [] else []) ++ (c ∷ t ∷ (if sub then m ∷ [] else []))) ++ xs)
+asked_one m n k c t true buffers sub xs rs e = omega (arith, e)
+asked_one m n k c t false true true xs rs e = omega (arith, e)
+asked_one m n k c t false true false xs rs e = omega (arith, e)
+asked_one m n k c t false false true xs rs e = omega (arith, e)
+asked_one m n k c t false false false xs rs e = omega (arith, e)
 
-one_said : (o : Opening) (m : Msg) → length (only_sub o m) ≡ subs_said o
-one_said o m = by_bool (is_sub o)
-  where
-    by_bool : (b : Bool) → length (if b then m ∷ [] else []) ≡ length (if b then farewell ∷ [] else [])
-    by_bool true = refl
-    by_bool false = refl
-
-record SubSums (o : Opening) (b : Bool) : Type 0 where
-  asked : asks (sub_rounds b) ≡ 2 + subs_said o
-  answered : answers (sub_rounds b) ≡ 1 + subs_said o
-
-sub_sums : (o : Opening) (b : Bool) → is_sub o ≡ b → SubSums o b
-sub_sums o true e = let n = ap (λ c. length (if c then farewell ∷ [] else [])) e in record { asked = omega (arith, n); answered = omega (arith, n) }
-sub_sums o false e = let n = ap (λ c. length (if c then farewell ∷ [] else [])) e in record { asked = omega (arith, n); answered = omega (arith, n) }
-
--- what the rings' part has
-record Rings (o : Opening) : Type 0 where
-  asked : length (closes_rings o) ≡ asks (sub_rounds (is_sub o))
-  answered : length (torn_rings o) ≡ answers (sub_rounds (is_sub o))
-  given : length (only_sub o (release o.relid)) + 2 ≡ asks (sub_rounds (is_sub o))
-  taken : length (only_sub o (rescind o.relid)) + 1 ≡ answers (sub_rounds (is_sub o))
-
-rings : (o : Opening) → Rings o
-rings o =
-    let said = one_said o (release o.relid) in
-    let host_said = one_said o (rescind o.relid) in
-    let sub = sub_sums o (is_sub o) refl in
-    record { asked = omega (arith, said, sub.asked); answered = omega (arith, host_said, sub.answered); given = omega (arith, said, sub.asked); taken = omega (arith, host_said, sub.answered) }
-
--- what an opening has
-record One (o : Opening) (gone buffers : Bool) : Type 0 where
-  asked : length (guest_closes o) ≡ asks (end_one gone buffers (is_sub o))
-  answered : length (host_closes o) ≡ answers (end_one gone buffers (is_sub o))
-
-one : (o : Opening) (b c : Bool) → o.rescinded ≡ b → o.buffers ≡ c → One o b c
-one o true c gone has = record {
-  asked = ap (λ b. length (if b then release o.relid ∷ [] else guest_empties o ++ closes_rings o)) gone;
-  answered = ap (λ b. length (if b then rescind o.relid ∷ [] else host_empties o ++ torn_rings o)) gone;
-}
-one o false c closed has =
-    let both = length-append (guest_empties o) (closes_rings o) in
-    let host_both = length-append (host_empties o) (torn_rings o) in
-    let mine = rings o in
-    let a = ap (λ b. length (if b then release o.relid ∷ [] else guest_empties o ++ closes_rings o)) closed in
-    let d = ap (λ b. length (if b then rescind o.relid ∷ [] else host_empties o ++ torn_rings o)) closed in
-    let empties = few_empties o c has in
-    let asked = asks_join (buffer_rounds c) (sub_rounds (is_sub o)) in
-    let answered = answers_join (buffer_rounds c) (sub_rounds (is_sub o)) in
-    record { asked = omega (arith, a, both, mine.asked, empties.0, asked); answered = omega (arith, d, host_both, mine.answered, empties.1, answered) }
-  where
-    few_empties : (o : Opening) (c : Bool) → o.buffers ≡ c → (length (guest_empties o) ≡ asks (buffer_rounds c)) × (length (host_empties o) ≡ answers (buffer_rounds c))
-    few_empties o true has = (ap (λ b. length (if b then teardown_buffer o Send ∷ teardown_buffer o Receive ∷ [] else [])) has, ap (λ b. length (if b then torndown (buffer_list o Send) ∷ torndown (buffer_list o Receive) ∷ [] else [])) has)
-    few_empties o false has = (ap (λ b. length (if b then teardown_buffer o Send ∷ teardown_buffer o Receive ∷ [] else [])) has, ap (λ b. length (if b then torndown (buffer_list o Send) ∷ torndown (buffer_list o Receive) ∷ [] else [])) has)
-
-one_more : (f : Opening → List Msg) (o : Opening) (os : List Opening) → length (flat_map f (o ∷ os)) ≡ length (f o) + length (flat_map f os)
-one_more f o os = ap length (flat_map-cons f o os) ∙ length-append (f o) (flat_map f os)
+answered_one : (m n k t : Msg) (gone buffers sub : Bool) (xs : List Msg) (rs : List Round) → answers rs ≡ length xs
+    → answers (end_one gone buffers sub ++ rs) ≡ length ((if gone then m ∷ [] else (if buffers then n ∷ k ∷ [] else []) ++ (t ∷ (if sub then m ∷ [] else []))) ++ xs)
+answered_one m n k t true buffers sub xs rs e = omega (arith, e)
+answered_one m n k t false true true xs rs e = omega (arith, e)
+answered_one m n k t false true false xs rs e = omega (arith, e)
+answered_one m n k t false false true xs rs e = omega (arith, e)
+answered_one m n k t false false false xs rs e = omega (arith, e)
 
 record Sums (os : List Opening) : Type 0 where
   asked : asks (ends os) ≡ length (flat_map guest_closes os)
@@ -98,12 +57,27 @@ sums : (os : List Opening) → Sums os
 sums [] = record { asked = refl; answered = refl }
 sums (o ∷ os) =
     let rest = sums os in
-    let here = one o o.rescinded o.buffers refl refl in
-    let a = one_more guest_closes o os in
-    let b = one_more host_closes o os in
-    let c = asks_join (end_one o.rescinded o.buffers (is_sub o)) (ends os) in
-    let d = answers_join (end_one o.rescinded o.buffers (is_sub o)) (ends os) in
-    record { asked = omega (arith, rest.asked, here.asked, a, c); answered = omega (arith, rest.answered, here.answered, b, d) }
+    record {
+      asked = asked_one (release o.relid) (teardown_buffer o Send) (teardown_buffer o Receive) (close o.relid) (teardown o) o.rescinded o.buffers (is_sub o) (flat_map guest_closes os) (ends os) rest.asked ∙ sym (ap length (flat_map-cons guest_closes o os));
+      answered = answered_one (rescind o.relid) (torndown (buffer_list o Send)) (torndown (buffer_list o Receive)) (torndown o.gpadl) o.rescinded o.buffers (is_sub o) (flat_map host_closes os) (ends os) rest.answered ∙ sym (ap length (flat_map-cons host_closes o os));
+    }
+
+-- of the last round of a channel that is closed
+last_asked : (m : Msg) (sub : Bool) (xs : List Msg) (rs : List Round) → asks rs ≡ length xs → asks (last_rounds sub ++ rs) ≡ length ((if sub then m ∷ [] else []) ++ xs)
+last_asked m true xs rs e = omega (arith, e)
+last_asked m false xs rs e = e
+
+last_answered : (sub : Bool) (rs : List Round) → answers (last_rounds sub ++ rs) ≡ answers rs
+last_answered true rs = omega arith
+last_answered false rs = refl
+
+first_answered : (m : Msg) (sub : Bool) (xs : List Msg) → first_answers sub + length xs ≡ 1 + length ((if sub then m ∷ [] else []) ++ xs)
+first_answered m true xs = omega arith
+first_answered m false xs = refl
+
+some_answers : (sub : Bool) → 1 ≤ first_answers sub
+some_answers true = omega arith
+some_answers false = omega arith
 
 -- they are such ones
 abbrev Answered : Round → Type 0
@@ -111,10 +85,7 @@ Answered r = (1 ≤ r.answered) × (r.answered ≤ 2) × (r.asked ≤ 2)
 
 pair_answered : (r s : Round) → 1 ≤ r.asked → r.asked ≤ 2 → r.answered ≤ 2 → Answered s → Pair r s
 pair_answered r s a b c is =
-    let least = is.0 in
-    let most = is.1 in
-    let few = is.2 in
-    record { some_asked = omega (arith, a); some_answered = omega (arith, least); few_asked = omega (arith, b, few); few_answered = omega (arith, c, most) }
+    record { some_asked = omega (arith, a); some_answered = omega (arith, is.0); few_asked = omega (arith, b, is.2); few_answered = omega (arith, c, is.1) }
 
 talk_one : (r : Round) (rs : List Round) → 1 ≤ r.asked → r.asked ≤ 2 → r.answered ≤ 2 → Leads Answered rs → Talk rs → Talk (r ∷ rs)
 talk_one r rs a b c leads talk = (first_by Answered r rs (omega (arith, b)) (omega (arith, c)) (λ s there. pair_answered r s a b c there) leads, talk)
@@ -131,9 +102,8 @@ talk_sub false rs led = (talk_one (round 2 1) rs (omega arith) (omega arith) (om
 
 talk_buffers : (b : Bool) (rs : List Round) → Led rs → Led (buffer_rounds b ++ rs)
 talk_buffers true rs led =
-    let last = talk_one (round 1 1) rs (omega arith) (omega arith) (omega arith) led.1 led.0 in
     let here : Answered (round 1 1) = (omega arith, omega arith, omega arith) in
-    (talk_one (round 1 1) (round 1 1 ∷ rs) (omega arith) (omega arith) (omega arith) here last, here)
+    (talk_one (round 1 1) (round 1 1 ∷ rs) (omega arith) (omega arith) (omega arith) here (talk_one (round 1 1) rs (omega arith) (omega arith) (omega arith) led.1 led.0), here)
 talk_buffers false rs led = led
 
 talk_end : (gone buffers sub : Bool) (rs : List Round) → Led rs → Led (end_one gone buffers sub ++ rs)
@@ -152,16 +122,9 @@ pub ends_talk : (os : List Opening) → Talk (ends os)
 ends_talk os = (talks os).0
 
 -- the rounds of a phase's end, from an opening on
-record CutRounds (done left : List Opening) : Type 0 where
-  front : List Round
-  is : ends (done ++ left) ≡ front ++ ends left
-
-cut_rounds : (done left : List Opening) → CutRounds done left
-cut_rounds [] left = record { front = []; is = refl }
-cut_rounds (o ∷ done) left =
-    let rest = cut_rounds done left in
-    let mine : List Round = end_one o.rescinded o.buffers (is_sub o) in
-    record { front = mine ++ rest.front; is = ap (λ rs. mine ++ rs) rest.is ∙ sym (append_assoc mine rest.front (ends left)) }
+ends_join : (done left : List Opening) → ends (done ++ left) ≡ ends done ++ ends left
+ends_join [] left = refl
+ends_join (o ∷ done) left = let mine : List Round = end_one o.rescinded o.buffers (is_sub o) in ap (λ rs. mine ++ rs) (ends_join done left) ∙ sym (append_assoc mine (ends done) (ends left))
 
 one_behind : (front : List Round) (r : Round) (rest R : List Round) → R ≡ front ++ r ∷ rest → R ≡ (front ++ r ∷ []) ++ rest
 one_behind front r rest R is = is ∙ sym (append_assoc front (r ∷ []) rest)
@@ -176,156 +139,96 @@ module _ (plan : BusPlan) (phase place : ℕ) (done : List Opening) (o : Opening
   abbrev R : List Round
   R = ends (closing_of plan phase)
 
-  abbrev cut_is : CutRounds done (o ∷ left)
-  cut_is = cut_rounds done (o ∷ left)
+  abbrev rest : List Round
+  rest = last_rounds (is_sub o) ++ ends left
 
-  whole_is : (b c : Bool) → o.rescinded ≡ b → o.buffers ≡ c → R ≡ cut_is.front ++ (end_one b c (is_sub o) ++ ends left)
-  whole_is b c gone has = ap ends at.closing_is ∙ cut_is.is ∙ (λ i. cut_is.front ++ (end_one (gone i) (has i) (is_sub o) ++ ends left))
+  whole_is : (b c : Bool) → o.rescinded ≡ b → o.buffers ≡ c → R ≡ ends done ++ (end_one b c (is_sub o) ++ ends left)
+  whole_is b c gone has = ap ends at.closing_is ∙ ends_join done (o ∷ left) ∙ (λ i. ends done ++ (end_one (gone i) (has i) (is_sub o) ++ ends left))
 
-  here_is : drop place (closing_of plan phase) ≡ o ∷ left
-  here_is = ends_left plan phase place done (o ∷ left) at.closing_is at.place_is
+  back : o ∷ left ≡ drop place (closing_of plan phase)
+  back = sym (ends_left plan phase place done (o ∷ left) at.closing_is at.place_is)
 
-  rings_is : (c : Bool) → o.rescinded ≡ false → o.buffers ≡ c → AtRings plan phase o left
-  rings_is true closed has = record {
-    front = (cut_is.front ++ round 1 1 ∷ []) ++ round 1 1 ∷ [];
-    is = one_behind (cut_is.front ++ round 1 1 ∷ []) (round 1 1) (sub_rounds (is_sub o) ++ ends left) R (one_behind cut_is.front (round 1 1) (round 1 1 ∷ (sub_rounds (is_sub o) ++ ends left)) R (whole_is false true closed has));
-  }
-  rings_is false closed has = record { front = cut_is.front; is = whole_is false false closed has }
+  -- how many messages are left then
+  record Sizes : Type 0 where
+    asked : asks (ends left) ≡ length (flat_map guest_closes left)
+    answered : answers (ends left) ≡ length (flat_map host_closes left)
+    last_asks : asks rest ≡ length (only_sub o (release o.relid) ++ flat_map guest_closes left)
+    last_answers : answers rest ≡ answers (ends left)
+    some : 1 ≤ first_answers (is_sub o)
+    first : first_answers (is_sub o) + length (flat_map host_closes left) ≡ 1 + length (only_sub o (rescind o.relid) ++ flat_map host_closes left)
+
+  sizes : Sizes
+  sizes =
+      let both = sums left in
+      record {
+        asked = both.asked;
+        answered = both.answered;
+        last_asks = last_asked (release o.relid) (is_sub o) (flat_map guest_closes left) (ends left) both.asked;
+        last_answers = last_answered (is_sub o) (ends left);
+        some = some_answers (is_sub o);
+        first = first_answered (rescind o.relid) (is_sub o) (flat_map host_closes left);
+      }
 
   -- the page list of a buffer is being torn down
-  receive_is : o.rescinded ≡ false → o.buffers ≡ true → R ≡ (cut_is.front ++ round 1 1 ∷ []) ++ (round 1 1 ∷ (sub_rounds (is_sub o) ++ ends left))
-  receive_is closed has = one_behind cut_is.front (round 1 1) (round 1 1 ∷ (sub_rounds (is_sub o) ++ ends left)) R (whole_is false true closed has)
+  receive_is : o.rescinded ≡ false → o.buffers ≡ true → R ≡ (ends done ++ round 1 1 ∷ []) ++ (round 1 1 ∷ (sub_rounds (is_sub o) ++ ends left))
+  receive_is closed has = one_behind (ends done) (round 1 1) (round 1 1 ∷ (sub_rounds (is_sub o) ++ ends left)) R (whole_is false true closed has)
+
+  rings_is : (c : Bool) → o.rescinded ≡ false → o.buffers ≡ c → AtRings plan phase o left
+  rings_is true closed has = record { front = (ends done ++ round 1 1 ∷ []) ++ round 1 1 ∷ []; is = one_behind (ends done ++ round 1 1 ∷ []) (round 1 1) (sub_rounds (is_sub o) ++ ends left) R (receive_is closed has) }
+  rings_is false closed has = record { front = ends done; is = whole_is false false closed has }
 
   pub guest_empties_in : (k : Buffer) → o.rescinded ≡ false → o.buffers ≡ true → GuestIn R (length (empties_left k (drop place (closing_of plan phase)))) (length (emptied_left k (drop place (closing_of plan phase))))
   guest_empties_in Send closed has =
-      let mine = rings o in
-      let rest = sums left in
-      let says = ap (λ os. length (empties_left Send os)) here_is in
-      let hears = ap (λ os. length (emptied_left Send os)) here_is in
-      let a = length-append (empties_behind o Send) (flat_map guest_closes left) in
-      let b = length-append (emptied_behind o Send) (flat_map host_closes left) in
-      let c = asks_join (sub_rounds (is_sub o)) (ends left) in
-      let d = answers_join (sub_rounds (is_sub o)) (ends left) in
-      guest_in R cut_is.front (round 1 1) (round 1 1 ∷ (sub_rounds (is_sub o) ++ ends left)) _ _ (whole_is false true closed has)
-      (omega (arith, says, a, c, mine.asked, rest.asked)) (omega (arith, hears, b, d, mine.answered, rest.answered)) (omega (arith, hears, b, d, mine.answered, rest.answered))
+      let s = sizes in
+      subst (λ os. GuestIn R (length (empties_left Send os)) (length (emptied_left Send os))) back
+      (guest_in R (ends done) (round 1 1) (round 1 1 ∷ (sub_rounds (is_sub o) ++ ends left)) _ _ (whole_is false true closed has) (omega arith) (omega arith) (omega arith))
   guest_empties_in Receive closed has =
-      let mine = rings o in
-      let rest = sums left in
-      let says = ap (λ os. length (empties_left Receive os)) here_is in
-      let hears = ap (λ os. length (emptied_left Receive os)) here_is in
-      let a = length-append (empties_behind o Receive) (flat_map guest_closes left) in
-      let b = length-append (emptied_behind o Receive) (flat_map host_closes left) in
-      let c = asks_join (sub_rounds (is_sub o)) (ends left) in
-      let d = answers_join (sub_rounds (is_sub o)) (ends left) in
-      guest_in R (cut_is.front ++ round 1 1 ∷ []) (round 1 1) (sub_rounds (is_sub o) ++ ends left) _ _ (receive_is closed has)
-      (omega (arith, says, a, c, mine.asked, rest.asked)) (omega (arith, hears, b, d, mine.answered, rest.answered)) (omega (arith, hears, b, d, mine.answered, rest.answered))
+      let s = sizes in
+      subst (λ os. GuestIn R (length (empties_left Receive os)) (length (emptied_left Receive os))) back
+      (guest_in R (ends done ++ round 1 1 ∷ []) (round 1 1) (sub_rounds (is_sub o) ++ ends left) _ _ (receive_is closed has) (omega arith) (omega arith) (omega arith))
 
   pub host_empties_in : (k : Buffer) → o.rescinded ≡ false → o.buffers ≡ true → HostIn R (length (emptied_left k (drop place (closing_of plan phase)))) (length (tears_left k (drop place (closing_of plan phase))))
   host_empties_in Send closed has =
-      let mine = rings o in
-      let rest = sums left in
-      let hears = ap (λ os. length (tears_left Send os)) here_is in
-      let says = ap (λ os. length (emptied_left Send os)) here_is in
-      let a = length-append (empties_behind o Send) (flat_map guest_closes left) in
-      let b = length-append (emptied_behind o Send) (flat_map host_closes left) in
-      let c = asks_join (sub_rounds (is_sub o)) (ends left) in
-      let d = answers_join (sub_rounds (is_sub o)) (ends left) in
-      host_in R cut_is.front (round 1 1) (round 1 1 ∷ (sub_rounds (is_sub o) ++ ends left)) _ _ (whole_is false true closed has)
-      (omega (arith, says, b, d, mine.answered, rest.answered)) (omega (arith, hears, a, c, mine.asked, rest.asked)) (omega (arith, hears, a, c, mine.asked, rest.asked))
+      let s = sizes in
+      subst (λ os. HostIn R (length (emptied_left Send os)) (length (tears_left Send os))) back
+      (host_in R (ends done) (round 1 1) (round 1 1 ∷ (sub_rounds (is_sub o) ++ ends left)) _ _ (whole_is false true closed has) (omega arith) (omega arith) (omega arith))
   host_empties_in Receive closed has =
-      let mine = rings o in
-      let rest = sums left in
-      let hears = ap (λ os. length (tears_left Receive os)) here_is in
-      let says = ap (λ os. length (emptied_left Receive os)) here_is in
-      let a = length-append (empties_behind o Receive) (flat_map guest_closes left) in
-      let b = length-append (emptied_behind o Receive) (flat_map host_closes left) in
-      let c = asks_join (sub_rounds (is_sub o)) (ends left) in
-      let d = answers_join (sub_rounds (is_sub o)) (ends left) in
-      host_in R (cut_is.front ++ round 1 1 ∷ []) (round 1 1) (sub_rounds (is_sub o) ++ ends left) _ _ (receive_is closed has)
-      (omega (arith, says, b, d, mine.answered, rest.answered)) (omega (arith, hears, a, c, mine.asked, rest.asked)) (omega (arith, hears, a, c, mine.asked, rest.asked))
-
-  -- the first of the rings' rounds, and what is behind it
-  record FirstRound : Type 0 where
-    r : Round
-    more : List Round
-    front : List Round
-    is : R ≡ front ++ r ∷ more
-    two : r.asked ≡ 2
-    asked : asks more + 2 ≡ asks (sub_rounds (is_sub o)) + asks (ends left)
-    answered : r.answered + answers more ≡ answers (sub_rounds (is_sub o)) + answers (ends left)
-    some : 1 ≤ r.answered
-    behind : answers more ≡ answers (ends left)
-
-  first_round : (s : Bool) → is_sub o ≡ s → o.rescinded ≡ false → FirstRound
-  first_round true sub closed =
-      let there = rings_is o.buffers closed refl in
-      let is = there.is ∙ ap (λ b. there.front ++ (sub_rounds b ++ ends left)) sub in
-      let a = ap (λ b. asks (sub_rounds b)) sub in
-      let b = ap (λ b. answers (sub_rounds b)) sub in
-      record { r = round 2 2; more = round 1 0 ∷ ends left; front = there.front; is = is; two = refl; asked = omega (arith, a); answered = omega (arith, b); some = omega arith; behind = omega arith }
-  first_round false sub closed =
-      let there = rings_is o.buffers closed refl in
-      let is = there.is ∙ ap (λ b. there.front ++ (sub_rounds b ++ ends left)) sub in
-      let a = ap (λ b. asks (sub_rounds b)) sub in
-      let b = ap (λ b. answers (sub_rounds b)) sub in
-      record { r = round 2 1; more = ends left; front = there.front; is = is; two = refl; asked = omega (arith, a); answered = omega (arith, b); some = omega arith; behind = omega arith }
+      let s = sizes in
+      subst (λ os. HostIn R (length (emptied_left Receive os)) (length (tears_left Receive os))) back
+      (host_in R (ends done ++ round 1 1 ∷ []) (round 1 1) (sub_rounds (is_sub o) ++ ends left) _ _ (receive_is closed has) (omega arith) (omega arith) (omega arith))
 
   -- the channel is being closed, and a sub-channel is to be rescinded then
   pub guest_closes_in : o.rescinded ≡ false → GuestIn R (length (gives_sub (drop place (closing_of plan phase)))) (length (torn_left (drop place (closing_of plan phase))))
   guest_closes_in closed =
-      let mine = rings o in
-      let rest = sums left in
-      let first = first_round (is_sub o) refl closed in
-      let says = ap (λ os. length (gives_sub os)) here_is in
-      let hears = ap (λ os. length (torn_left os)) here_is in
-      let a = length-append (only_sub o (release o.relid)) (flat_map guest_closes left) in
-      let b = length-append (torn_rings o) (flat_map host_closes left) in
-      guest_in R first.front first.r first.more _ _ first.is
-      (omega (arith, says, a, mine.given, rest.asked, first.asked)) (omega (arith, hears, b, mine.answered, rest.answered, first.answered, first.some)) (omega (arith, hears, b, mine.answered, rest.answered, first.answered))
+      let s = sizes in
+      let there = rings_is o.buffers closed refl in
+      subst (λ os. GuestIn R (length (gives_sub os)) (length (torn_left os))) back (guest_in R there.front (round 2 (first_answers (is_sub o))) rest _ _ there.is (omega arith) (omega arith) (omega arith))
+
+  sub_is : (front : List Round) → R ≡ front ++ (sub_rounds (is_sub o) ++ ends left) → is_sub o ≡ true → R ≡ front ++ (round 2 2 ∷ round 1 0 ∷ ends left)
+  sub_is front is sub = is ∙ ap (λ b. front ++ (sub_rounds b ++ ends left)) sub
 
   pub guest_gives_sub_in : o.rescinded ≡ false → is_sub o ≡ true → GuestIn R (length (gives_one (drop place (closing_of plan phase)))) (length (takes_one (drop place (closing_of plan phase))))
   guest_gives_sub_in closed sub =
-      let rest = sums left in
+      let s = sizes in
       let there = rings_is o.buffers closed refl in
-      let is = there.is ∙ ap (λ b. there.front ++ (sub_rounds b ++ ends left)) sub in
-      let says = ap (λ os. length (gives_one os)) here_is in
-      let hears = ap (λ os. length (takes_one os)) here_is in
-      guest_in R there.front (round 2 2) (round 1 0 ∷ ends left) _ _ is
-      (omega (arith, says, rest.asked)) (omega (arith, hears, rest.answered)) (omega (arith, hears, rest.answered))
+      subst (λ os. GuestIn R (length (gives_one os)) (length (takes_one os))) back (guest_in R there.front (round 2 2) (round 1 0 ∷ ends left) _ _ (sub_is there.front there.is sub) (omega arith) (omega arith) (omega arith))
 
   pub guest_gives_in : o.rescinded ≡ true → GuestIn R (length (gives_one (drop place (closing_of plan phase)))) (length (takes_one (drop place (closing_of plan phase))))
   guest_gives_in gone =
-      let rest = sums left in
-      let says = ap (λ os. length (gives_one os)) here_is in
-      let hears = ap (λ os. length (takes_one os)) here_is in
-      guest_in R cut_is.front (round 0 1) (round 1 0 ∷ ends left) _ _ (whole_is true o.buffers gone refl)
-      (omega (arith, says, rest.asked)) (omega (arith, hears, rest.answered)) (omega (arith, hears, rest.answered))
+      let s = sizes in
+      subst (λ os. GuestIn R (length (gives_one os)) (length (takes_one os))) back (guest_in R (ends done) (round 0 1) (round 1 0 ∷ ends left) _ _ (whole_is true o.buffers gone refl) (omega arith) (omega arith) (omega arith))
 
   pub host_closes_in : o.rescinded ≡ false → HostIn R (length (torn_left (drop place (closing_of plan phase)))) (length (closes_left (drop place (closing_of plan phase))))
   host_closes_in closed =
-      let mine = rings o in
-      let rest = sums left in
-      let first = first_round (is_sub o) refl closed in
-      let two = first.two in
-      let says = ap (λ os. length (torn_left os)) here_is in
-      let hears = ap (λ os. length (closes_left os)) here_is in
-      let a = length-append (closes_rings o) (flat_map guest_closes left) in
-      let b = length-append (torn_rings o) (flat_map host_closes left) in
-      host_in R first.front first.r first.more _ _ first.is
-      (omega (arith, says, b, mine.answered, rest.answered, first.answered)) (omega (arith, hears, a, mine.asked, rest.asked, first.asked)) (omega (arith, hears, a, mine.asked, rest.asked, first.asked, two))
+      let s = sizes in
+      let there = rings_is o.buffers closed refl in
+      subst (λ os. HostIn R (length (torn_left os)) (length (closes_left os))) back (host_in R there.front (round 2 (first_answers (is_sub o))) rest _ _ there.is (omega arith) (omega arith) (omega arith))
 
   pub host_tears_in : o.rescinded ≡ false → HostIn R (length (torn_left (drop place (closing_of plan phase)))) (length (tears_down (drop place (closing_of plan phase))))
   host_tears_in closed =
-      let mine = rings o in
-      let rest = sums left in
-      let first = first_round (is_sub o) refl closed in
-      let two = first.two in
-      let says = ap (λ os. length (torn_left os)) here_is in
-      let hears = ap (λ os. length (tears_down os)) here_is in
-      let a = length-append (only_sub o (release o.relid)) (flat_map guest_closes left) in
-      let b = length-append (torn_rings o) (flat_map host_closes left) in
-      host_in R first.front first.r first.more _ _ first.is
-      (omega (arith, says, b, mine.answered, rest.answered, first.answered)) (omega (arith, hears, a, mine.given, rest.asked, first.asked)) (omega (arith, hears, a, mine.given, rest.asked, first.asked, two))
+      let s = sizes in
+      let there = rings_is o.buffers closed refl in
+      subst (λ os. HostIn R (length (torn_left os)) (length (tears_down os))) back (host_in R there.front (round 2 (first_answers (is_sub o))) rest _ _ there.is (omega arith) (omega arith) (omega arith))
 
   -- the channel is taken back, and is to be given back
   record LastRound : Type 0 where
@@ -333,18 +236,15 @@ module _ (plan : BusPlan) (phase place : ℕ) (done : List Opening) (o : Opening
     is : R ≡ front ++ round 1 0 ∷ ends left
 
   last_round : (b s : Bool) → o.rescinded ≡ b → is_sub o ≡ s → (b || s) ≡ true → LastRound
-  last_round true s gone sub given = record { front = cut_is.front ++ round 0 1 ∷ []; is = one_behind cut_is.front (round 0 1) (round 1 0 ∷ ends left) R (whole_is true o.buffers gone refl) }
+  last_round true s gone sub given = record { front = ends done ++ round 0 1 ∷ []; is = one_behind (ends done) (round 0 1) (round 1 0 ∷ ends left) R (whole_is true o.buffers gone refl) }
   last_round false true closed sub given =
       let there = rings_is o.buffers closed refl in
-      let is = there.is ∙ ap (λ b. there.front ++ (sub_rounds b ++ ends left)) sub in
-      record { front = there.front ++ round 2 2 ∷ []; is = one_behind there.front (round 2 2) (round 1 0 ∷ ends left) R is }
-  last_round false false closed sub given = absurd (let wrong : false ≡ true = given in cc)
+      record { front = there.front ++ round 2 2 ∷ []; is = one_behind there.front (round 2 2) (round 1 0 ∷ ends left) R (sub_is there.front there.is sub) }
+  last_round false false closed sub given = absurd (cc)
 
   pub host_takes_in : ends_given_back o ≡ true → HostIn R (length (flat_map host_closes (drop (suc place) (closing_of plan phase)))) (length (gives_one (drop place (closing_of plan phase))))
   host_takes_in given =
-      let rest = sums left in
+      let s = sizes in
       let last = last_round o.rescinded (is_sub o) refl refl given in
       let says = ap (λ os. length (flat_map host_closes os)) (ends_behind plan phase place done o left at) in
-      let hears = ap (λ os. length (gives_one os)) here_is in
-      host_in R last.front (round 1 0) (ends left) _ _ last.is
-      (omega (arith, says, rest.answered)) (omega (arith, hears, rest.asked)) (omega (arith, hears, rest.asked))
+      subst (λ os. HostIn R (length (flat_map host_closes (drop (suc place) (closing_of plan phase)))) (length (gives_one os))) back (host_in R last.front (round 1 0) (ends left) _ _ last.is (omega arith) (omega arith) (omega arith))

@@ -1,9 +1,7 @@
 -- The laws of each side, and of both.
 use Rattle.std.proofs.Common.{◌≡◌, ◌∙◌, ℕ, ◌&&◌, ◌||◌, not, Bool, true, false, List, [], ◌∷◌, ◌++◌, length, Option, Some, is_some, Ok, refl, sym, ap, subst, append_assoc, length-append, arith}
 use Rattle.std.proofs.lemmas.List.{append-nil}
-use Rattle.contact.specs.declared.part.Part.{Part}
-use Rattle.vmbus_msg.specs.declared.msg.Msg.{Msg}
-use Rattle.control_model.specs.declared.guest_turn.GuestTurn.{GuestTurn}
+use Rattle.control_laws.proofs.Words.{Part, Msg, GuestTurn}
 use Rattle.control_model.specs.Plan.{BusPlan, part_after}
 use Rattle.control_model.specs.Channels.{changed}
 use Rattle.control_model.specs.Messages.{Sends}
@@ -23,6 +21,7 @@ use Rattle.control_laws.proofs.HostLists.{host_step}
 use Rattle.control_laws.proofs.Beginning.{guest_begins_so, host_begins_so}
 use Rattle.control_laws.proofs.Counting.{Near, near}
 use Rattle.control_laws.proofs.Ending.{over_law}
+use Rattle.control_laws.proofs.Marks.{or_true}
 
 pub new_ones_stand : NewOnesStand
 new_ones_stand plan = (record { plan_is = refl; stands = GuestFresh; said = refl; heard = refl }, record { plan_is = refl; tried = []; pieces = []; stands = HostFresh; said = refl; heard = refl })
@@ -110,9 +109,8 @@ guest_takes plan g m planned at waits front =
           let here : GuestTakes (guest_of plan g) goes.next sent g' = subst (λ (k : GuestSeen). GuestTakes k goes.next sent g') same (subst (λ n. GuestTakes g n sent g') (sym is) takes) in
           let both : Ok step.turn ≡ Ok here.turn = sym step.hears ∙ here.hears in
           let turn : here.turn ≡ step.turn = cc in
-          let sends : Sends plan step.turn.burst sent = subst (λ (t : GuestTurn). Sends plan t.burst sent) turn here.sends in
           let now : g' ≡ guest_after (guest_of plan g) g.part step.turn sent (goes.next ∷ []) = here.now ∙ ap (λ t. guest_after (guest_of plan g) g.part t sent (goes.next ∷ [])) turn in
-          subst (GuestAt plan) (sym now) (guest_at_after plan g g.part step.turn sent (goes.next ∷ []) at step.goes (step.says sent sends) hears),
+          subst (GuestAt plan) (sym now) (guest_at_after plan g g.part step.turn sent (goes.next ∷ []) at step.goes (step.says sent (subst (λ (t : GuestTurn). Sends plan t.burst sent) turn here.sends)) hears),
     )
 
 pub host_takes : HostHears
@@ -141,9 +139,7 @@ near_by plan g h to_host to_guest agrees =
     let guest = agrees.guest_at in
     let host = agrees.host_at in
     let stands : HostStands plan g.part h.awaits h.version h.channels h.lists host.tried host.pieces = subst (λ p. HostStands plan p h.awaits h.version h.channels h.lists host.tried host.pieces) agrees.part host.stands in
-    let said : said_by_host plan ≡ h.posted ++ host_to_say plan g.part h.awaits host.tried = subst (λ p. said_by_host plan ≡ h.posted ++ host_to_say plan p h.awaits host.tried) agrees.part host.said in
-    let heard : said_by_guest plan ≡ h.fed ++ host_to_hear plan g.part h.awaits host.tried host.pieces = subst (λ p. said_by_guest plan ≡ h.fed ++ host_to_hear plan p h.awaits host.tried host.pieces) agrees.part host.heard in
-    let a1 = ap length heard in
+    let a1 = ap length (subst (λ p. said_by_guest plan ≡ h.fed ++ host_to_hear plan p h.awaits host.tried host.pieces) agrees.part host.heard) in
     let a2 = length-append h.fed (host_to_hear plan g.part h.awaits host.tried host.pieces) in
     let a3 = ap length guest.said in
     let a4 = length-append g.posted (to_say plan g.part g.awaits) in
@@ -151,7 +147,7 @@ near_by plan g h to_host to_guest agrees =
     let a6 = length-append h.fed to_host in
     let b1 = ap length guest.heard in
     let b2 = length-append g.fed (to_hear plan g.part g.awaits (length g.channels)) in
-    let b3 = ap length said in
+    let b3 = ap length (subst (λ p. said_by_host plan ≡ h.posted ++ host_to_say plan p h.awaits host.tried) agrees.part host.said) in
     let b4 = length-append h.posted (host_to_say plan g.part h.awaits host.tried) in
     let b5 = ap length agrees.host_sent in
     let b6 = length-append g.fed to_guest in
@@ -162,10 +158,6 @@ both_wait : (a b : Bool) → Near 0 0 a b → (a ≡ true) × (b ≡ true)
 both_wait true true n = (refl, refl)
 both_wait true false n = let one = n.some refl in absurd (omega (arith, one))
 both_wait false b n = let one = n.some refl in absurd (omega (arith, one))
-
-or_true : (a : Bool) → (a || true) ≡ true
-or_true true = refl
-or_true false = refl
 
 pub both_can_begin : (plan : BusPlan) (g : GuestSeen) (h : HostSeen) → Agrees plan g h [] [] → (can_begin g ≡ true) × (host_can_begin h ≡ true)
 both_can_begin plan g h agrees =
@@ -197,11 +189,6 @@ host_law plan g h m to_host to_guest agrees =
       λ sent h' takes.
           let there = goes.1 sent h' takes in
           let fed : h'.fed ≡ h.fed ++ m ∷ [] = ap (λ (k : HostSeen). k.fed) takes.now in
-          let posted : h'.posted ≡ h.posted ++ sent = ap (λ (k : HostSeen). k.posted) takes.now in
-          let front = ap length there.heard in
-          let parts = length-append h'.fed (host_to_hear plan h'.part h'.awaits there.tried there.pieces) in
-          let more = ap length fed in
-          let one = length-append h.fed (m ∷ []) in
           let all = ap (λ p. length (said_by_guest p)) guest.plan_is in (
             record {
               planned = agrees.planned;
@@ -209,9 +196,9 @@ host_law plan g h m to_host to_guest agrees =
               host_at = there;
               part = ap (λ (k : HostSeen). k.part) takes.now ∙ agrees.part;
               guest_sent = agrees.guest_sent ∙ sym (append_assoc h.fed (m ∷ []) to_host) ∙ ap (λ xs. xs ++ to_host) (sym fed);
-              host_sent = posted ∙ ap (λ xs. xs ++ sent) agrees.host_sent ∙ append_assoc g.fed to_guest sent;
+              host_sent = (ap (λ (k : HostSeen). k.posted) takes.now) ∙ ap (λ xs. xs ++ sent) agrees.host_sent ∙ append_assoc g.fed to_guest sent;
             },
-            omega (arith, front, parts, more, one, all),
+            omega (arith, ap length there.heard, length-append h'.fed (host_to_hear plan h'.part h'.awaits there.tried there.pieces), ap length fed, length-append h.fed (m ∷ []), all),
           ),
     )
 
@@ -225,11 +212,6 @@ guest_law plan g h m to_host to_guest agrees =
       λ sent g' takes.
           let there = goes.1 sent g' takes in
           let fed : g'.fed ≡ g.fed ++ m ∷ [] = ap (λ (k : GuestSeen). k.fed) takes.now in
-          let posted : g'.posted ≡ g.posted ++ sent = ap (λ (k : GuestSeen). k.posted) takes.now in
-          let front = ap length there.heard in
-          let parts = length-append g'.fed (to_hear plan g'.part g'.awaits (length g'.channels)) in
-          let more = ap length fed in
-          let one = length-append g.fed (m ∷ []) in
           let all = ap (λ p. length (said_by_host p)) guest.plan_is in
           let now = ap (λ p. length (said_by_host p)) there.plan_is in
           let same = ap (λ p. length (said_by_guest p)) (there.plan_is ∙ sym guest.plan_is) in (
@@ -238,10 +220,10 @@ guest_law plan g h m to_host to_guest agrees =
               guest_at = there;
               host_at = host;
               part = agrees.part ∙ sym (ap (λ (k : GuestSeen). k.part) takes.now);
-              guest_sent = posted ∙ ap (λ xs. xs ++ sent) agrees.guest_sent ∙ append_assoc h.fed to_host sent;
+              guest_sent = (ap (λ (k : GuestSeen). k.posted) takes.now) ∙ ap (λ xs. xs ++ sent) agrees.guest_sent ∙ append_assoc h.fed to_host sent;
               host_sent = agrees.host_sent ∙ sym (append_assoc g.fed (m ∷ []) to_guest) ∙ ap (λ xs. xs ++ to_guest) (sym fed);
             },
-            omega (arith, front, parts, more, one, all, now, same),
+            omega (arith, ap length there.heard, length-append g'.fed (to_hear plan g'.part g'.awaits (length g'.channels)), ap length fed, length-append g.fed (m ∷ []), all, now, same),
           ),
     )
 

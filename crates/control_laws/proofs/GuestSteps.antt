@@ -1,41 +1,22 @@
 -- A guest takes the next message that its host says.
-use Rattle.std.proofs.Common.{◌≡◌, ◌≢◌, ◌∙◌, ℕ, zero, suc, ◌+◌, ◌-◌, ◌<◌, ◌≤◌, ◌==◌, ◌&&◌, ◌||◌, not, true, false, Bool, nat_le, cond, if◌then◌else◌, List, [], ◌∷◌, ◌++◌, length, map, drop, replicate, slice_get, slice_set, Option, Some, None, is_some, Ok, All, get_or, ◌^◌, refl, sym, ap, subst, append_assoc, length-append, arith}
+use Rattle.std.proofs.Common.{◌≡◌, ◌≢◌, ◌∙◌, ℕ, zero, suc, ◌+◌, ◌-◌, ◌<◌, ◌≤◌, ◌==◌, ◌&&◌, ◌||◌, not, true, false, Bool, nat_le, if◌then◌else◌, List, [], ◌∷◌, ◌++◌, length, map, drop, replicate, slice_get, slice_set, Option, Some, None, is_some, Ok, All, get_or, ◌^◌, refl, sym, ap, subst, append_assoc, length-append, arith}
 use Rattle.std.specs.Option.{option_to_list}
 use Rattle.std.specs.List.{AllByRecursion, flat_map, position_from}
 use Rattle.std.proofs.lemmas.Bool.{eq-eqb}
 use Rattle.std.proofs.lemmas.Bool.Decides.{nat_tests}
-use Rattle.std.proofs.lemmas.List.Concat.{flat_map-cons}
 use Rattle.std.proofs.lemmas.List.{append-nil, length-replicate}
 use Rattle.std.proofs.lemmas.List.Elements.{All-get_or}
-use Rattle.contact.specs.declared.version.Version.{Version}
-use Rattle.contact.specs.declared.kind.Kind.{Kind}
-use Rattle.contact.specs.declared.kind.Kind.TheVariants.{Disk, Sock}
-use Rattle.contact.specs.Versions.{versions_tried, answers_modify}
-use Rattle.contact.specs.declared.part.Part.{Part}
-use Rattle.contact.specs.declared.part.Part.TheVariants.{Contact, PhaseStart, PhaseEnd, Unload}
-use Rattle.contact.specs.Classes.{class_id, offer, offers_from}
-use Rattle.io_edge.specs.declared.side.Side.TheVariants.{Guest as GuestSide}
-use Rattle.chan_state.specs.declared.state.State.{State}
-use Rattle.chan_state.specs.declared.state.State.TheVariants.{Opening as IsOpening, Opened, Modifying, Closing, Closed, Released}
-use Rattle.chan_state.specs.declared.event.Event.TheVariants.{WantOpen}
-use Rattle.vmbus_msg.specs.declared.msg.Msg.{Msg}
-use Rattle.control_model.specs.declared.opening.Opening.{Opening}
-use Rattle.control_model.specs.declared.buffer.Buffer.{Buffer}
-use Rattle.control_model.specs.declared.buffer.Buffer.TheVariants.{Receive, Send}
-use Rattle.control_model.specs.declared.channel.Channel.{Channel}
-use Rattle.control_model.specs.declared.change.Change.{Change}
-use Rattle.control_model.specs.declared.change.Change.TheVariants.{Same, Offered, Now}
-use Rattle.control_model.specs.declared.burst.Burst.TheVariants.{One}
-use Rattle.control_model.specs.declared.guest_wait.GuestWait.{GuestWait}
-use Rattle.control_model.specs.declared.guest_wait.GuestWait.TheVariants.{Nothing, Response, Offers, SubOffer, ServiceOffer, Created, Opened as AwaitsOpened, Listed, Modified, Unlisted, Torn, Rescinded, Unloaded}
-use Rattle.control_model.specs.declared.guest_turn.GuestTurn.{GuestTurn}
+use Rattle.control_laws.proofs.Words.{Version, Kind, Disk, Sock, versions_tried, answers_modify, Part, Contact, PhaseStart, PhaseEnd, Unload, class_id, offer, offers_from, GuestSide, State, Opened, Modifying, Closing, Closed, Released, WantOpen, Msg, Opening, Buffer, Receive, Send, Channel, Change, Same, Now, One, GuestWait, Response, Offers, SubOffer, ServiceOffer, Created, AwaitsOpened, Listed, Modified, Unlisted, Torn, Rescinded, Unloaded, GuestTurn}
+use Rattle.chan_state.specs.declared.state.State.TheVariants.{Opening as IsOpening}
+use Rattle.control_model.specs.declared.change.Change.TheVariants.{Offered}
+use Rattle.control_model.specs.declared.guest_wait.GuestWait.TheVariants.{Nothing}
 use Rattle.control_model.specs.Plan.{BusPlan, buffer_list, is_sub, is_of_sub, first_subs, subs_next, opening_at, closing_at, IsPlan, IsPort, HasPort, phase_of, closing_of}
 use Rattle.control_model.specs.Channels.{by_relid, lived, changed, is_handle, place_of_list}
 use Rattle.control_model.specs.Messages.{propose, respond, request, delivered, created, open_on, opened, modified, offer_sub, offer_service, pages_from, buffer_pages, close, teardown, teardown_buffer, torndown, rescind, release, farewell_taken, Sends}
 use Rattle.control_model.specs.Guest.{GuestSeen, idle, is_service, is_service_offer, service_offered, lists as lists_turn, offered_channel, proposal, proposes, answered, device_offered, is_sub_offer, goes_behind, sub_offered, on_offer, opens, created_for, on_created, fills as fills_turn, filled_for, opens_next, opens_with, opened_for, on_result, is_modifying, in_state, then_in, waits_answer, on_modified, torn_at, torn_then, torn_for, ended_for, torn_rings, empties, empties_list, emptied_at, closes_one, on_rescind, lists_next, closes_next, guest_hears, waits_for_nothing}
 use Rattle.control_model.specs.Said.{agreed, answer_to, moved, guest_moves, host_moves, dial_offers, guest_buffer, host_buffer, host_buffers, guest_opens, host_opens_all, guest_closes, host_closes, ends_given_back}
 use Rattle.control_model.specs.GuestAt.{guest_from, host_from, lists_dialed, opens_listed, answers_list, answers_open, fills_opened, fills_listed, answers_fill, from_first_sub, empties_left, emptied_left, torn_left, gives_sub, gives_one, takes_one, end_to_say, end_to_hear, moves_to_say, start_to_say, to_say, to_hear, GuestStands}
-use Rattle.control_model.specs.GuestAt.GuestStands.{fresh, proposes as IsProposing, asks, contacted, offers as IsOffering, dials, lists, opens as IsOpened, fills as IsFilling, moves, started, empties as IsEmptying, closes as IsClosing, gives_back, gives_sub_back, ended, leaves, is_over}
+use Rattle.control_model.specs.GuestAt.GuestStands.{proposes as IsProposing, asks, contacted, offers as IsOffering, dials, lists, opens as IsOpened, fills as IsFilling, moves, empties as IsEmptying, closes as IsClosing, gives_back, gives_sub_back, leaves, is_over}
 use Rattle.gpadl.proofs.Cutting.{cuts_so}
 use Rattle.control_model.proofs.KindLaws.{kind_of_class}
 use Rattle.control_model.specs.Stand.{At, EndsAt, offered_before, offered_by, offered_for, count_dialed, marked, end_state, guest_is, guest_ends, guest_before, Stand, Tries, Agreed, Meet, vps_before}
@@ -43,19 +24,19 @@ use Rattle.control_laws.proofs.NextOne.{guest_next_awaits, guest_next_stands, gu
 use Rattle.control_laws.proofs.Logs.{Logs, a_guest}
 use Rattle.control_laws.proofs.Marks.{by_test, same, at_relid, marked_append, marked_apart, marked_here, marked_there, stand_now, stand_add, stand_mark, stand_join, stand_at}
 use Rattle.control_laws.proofs.Closing.{Distinct, distinct_mid}
-use Rattle.control_laws.proofs.Cutting.{all_weaker, mid_all}
+use Rattle.control_laws.proofs.Cutting.{all_weaker, mid_all, all_front, all_snoc}
 use Rattle.control_laws.proofs.Counts.{count_next, done_known, unopened, service_at}
-use Rattle.control_laws.proofs.Plans.{phase_has, facts, opening_from, opening_here, offered_here, done_more, place_more, end_facts, closing_here, ends_more, ends_place, none_first, none_behind}
+use Rattle.control_laws.proofs.Plans.{phase_has, Facts, facts, opening_from, opening_here, offered_here, done_more, place_more, end_facts, closing_here, ends_more, ends_place, none_first, none_behind}
 use Rattle.control_laws.proofs.Lower.{lower_one}
 use Rattle.control_laws.proofs.Offering.{kind_same, one_more, all_alike}
-use Rattle.control_laws.proofs.Handles.{all_front, can_open, find_list, closing_handle}
+use Rattle.control_laws.proofs.Handles.{can_open, find_list, closing_handle}
 use Rattle.control_laws.proofs.Next.{Turned, heard_so}
 use Rattle.control_laws.proofs.Vps.{vp_known, moved_all, moved_distinct, movers_are, answers_are, own_marked, host_rest}
 use Rattle.control_laws.proofs.Moving.{Known, phase_known, guest_opened, then_now, next_list, answers_left}
 use Rattle.control_laws.proofs.NextEnd.{NextIs, next_is, heard_with, GuestEnds, guest_open, guest_goes, guest_stands_so, guest_next}
 use Rattle.control_laws.proofs.Tried.{one_tried, next_tried, first_tried}
-use Rattle.control_laws.proofs.Saying.{lists_more, answers_more, drop_all, left_at, left_behind, ends_left, ends_said, ends_heard}
-use Rattle.control_laws.proofs.Seats.{AreSubs, all_snoc, first_run, no_first, no_subs_next, sub_at}
+use Rattle.control_laws.proofs.Saying.{guest_onward, host_onward, guest_then, host_then, lists_more, answers_more, drop_all, left_at, ends_left, ends_said, ends_heard}
+use Rattle.control_laws.proofs.Seats.{AreSubs, first_run, no_first, no_subs_next, sub_at}
 
 -- a message is taken, and the guest goes on
 pub record GuestStep (plan : BusPlan) (g : GuestSeen) (m : Msg) : Type 0 where
@@ -69,11 +50,9 @@ pub record GuestStep (plan : BusPlan) (g : GuestSeen) (m : Msg) : Type 0 where
 pub step_accepts : (plan : BusPlan) (logs : Logs) (v : Version) → IsPlan plan → Agreed plan v
     → GuestStep plan (a_guest plan logs (Some Contact) (Response v) None []) (respond 1)
 step_accepts plan logs v planned agreed =
-    let g : GuestSeen = a_guest plan logs (Some Contact) (Response v) None [] in
-    let turn : GuestTurn = answered g v 1 in
+    let turn : GuestTurn = answered (a_guest plan logs (Some Contact) (Response v) None []) v 1 in
     let one = one_tried plan v agreed in
-    let within = agreed.within_host in
-    let has : nat_le v.0 plan.host.0 ≡ true = grind (arith, nat_tests, within) in
+    let has : nat_le v.0 plan.host.0 ≡ true = grind (arith, nat_tests, agreed.within_host) in
     record {
       turn = turn;
       hears = refl;
@@ -129,16 +108,14 @@ step_offering plan logs v n kind left fits agreed is =
     let many : length guests ≡ n = length-replicate n offered_channel in
     let next : suc n ≡ n + 1 = omega arith in
     let there = left_of plan.kinds n kind left is in
-    let here = there.0 in
-    let takes : device_offered g kind 0 (n + 1) ≡ turn = rw (many, same (n + 1), here, kind_same kind) refl in
+    let takes : device_offered g kind 0 (n + 1) ≡ turn = rw (many, same (n + 1), there.0, kind_same kind) refl in
     let long : length (guests ++ offered_channel ∷ []) ≡ n + 1 = omega (arith, many, length-append guests (offered_channel ∷ [])) in
     let these : drop (length guests) plan.kinds ≡ kind ∷ left = ap (λ k. drop k plan.kinds) many ∙ is in
     let those : drop (length (guests ++ offered_channel ∷ [])) plan.kinds ≡ left = ap (λ k. drop k plan.kinds) (long ∙ sym next) ∙ there.1 in
-    let more : guests ++ offered_channel ∷ [] ≡ replicate (suc n) offered_channel = one_more n offered_channel in
     record {
       turn = turn;
       hears = ap (on_offer g (class_id kind) 0 (n + 1)) (kind_of_class kind (class_id kind) fits refl) ∙ ap (λ t. Ok t) takes;
-      goes = subst (GuestStands plan (Some Contact) Offers (Some v)) (sym more) (asks v (suc n) agreed there.2);
+      goes = subst (GuestStands plan (Some Contact) Offers (Some v)) (sym (one_more n offered_channel)) (asks v (suc n) agreed there.2);
       says = λ sent e. ap (λ s. s ++ guest_from plan 0) (sym e);
       heard = (λ i. (offers_from (many i + 1) (these i) ++ delivered ∷ []) ++ host_from plan 0) ∙ ap (λ xs. m ∷ ((xs ++ delivered ∷ []) ++ host_from plan 0)) (sym (λ i. offers_from (long i + 1) (those i)));
     }
@@ -149,15 +126,12 @@ step_offered plan logs v n agreed few is =
     let guests : List Channel = replicate n offered_channel in
     let all = none_left plan.kinds n few is in
     let many : length guests ≡ length plan.kinds = length-replicate n offered_channel ∙ all in
-    let none : drop (length guests) plan.kinds ≡ [] = ap (λ k. drop k plan.kinds) many ∙ drop_all plan.kinds in
-    let whole : (length guests == length plan.kinds) ≡ true = eq-eqb (length guests) (length plan.kinds) many in
-    let g : GuestSeen = a_guest plan logs (Some Contact) Offers (Some v) guests in
     record {
-      turn = record (idle g) { awaits = Nothing };
-      hears = rw whole refl;
+      turn = record (idle (a_guest plan logs (Some Contact) Offers (Some v) guests)) { awaits = Nothing };
+      hears = rw (eq-eqb (length guests) (length plan.kinds) many) refl;
       goes = contacted v guests (record { agreed = agreed; stand = all_alike plan n offered_channel all });
       says = λ sent e. ap (λ s. s ++ guest_from plan 0) (sym e);
-      heard = ap (λ ks. (offers_from (length guests + 1) ks ++ delivered ∷ []) ++ host_from plan 0) none;
+      heard = ap (λ ks. (offers_from (length guests + 1) ks ++ delivered ∷ []) ++ host_from plan 0) (ap (λ k. drop k plan.kinds) many ∙ drop_all plan.kinds);
     }
 
 -- OFFERCHANNEL of a service that was asked for: its page list is sent
@@ -165,136 +139,229 @@ port_kind : (port : ℕ) (dialed : Option ℕ) → dialed ≡ Some port → IsPo
 port_kind port None e fits = absurd (cc)
 port_kind port (Some p) e fits = let is : p ≡ port = cc in subst (λ n. n < 2 ^ 32) is fits
 
-step_dialed : (plan : BusPlan) (logs : Logs) (v : Version) (guests : List Channel) (phase place : ℕ) (done : List Opening) (o : Opening) (left : List Opening) (port : ℕ) → IsPlan plan
-    → At plan phase place done o left → o.dialed ≡ Some port → Meet plan v guests (offered_by plan phase done (o ∷ left)) (marked (guest_is (vps_before plan phase) Opened) done (guest_before (vps_before plan phase) plan phase))
-    → GuestStep plan (a_guest plan logs (Some (PhaseStart phase)) (ServiceOffer place) (Some v) guests) (offer_service port o.relid)
-step_dialed plan logs v guests phase place done o left port planned at is meet =
-    let g : GuestSeen = a_guest plan logs (Some (PhaseStart phase)) (ServiceOffer place) (Some v) guests in
-    let os : List Opening = phase_of plan phase in
-    let m : Msg = offer_service port o.relid in
-    let fact = facts plan phase place done o left planned at in
-    let turn : GuestTurn = lists_turn (heard_so (ServiceOffer place) v (Offered offered_channel)) place o in
-    let stands : ℕ → Channel = marked (guest_is (vps_before plan phase) Opened) done (guest_before (vps_before plan phase) plan phase) in
-    let count : ℕ = offered_by plan phase done (o ∷ left) in
-    let alone = fact.fits.alone (ap is_some is) in
-    let spot = service_at plan phase place done o left planned at (ap is_some is) in
-    let many = meet.stand.many in
-    let next_one : o.relid ≡ length guests + 1 = omega (arith, spot, many) in
-    let mine : is_service (Sock port) o.dialed ≡ true = ap (is_service (Sock port)) is ∙ kind_same (Sock port) in
-    let is_it : is_service_offer g o (Sock port) 0 o.relid ≡ true = ap (λ n. (((o.relid == n) && (o.relid == o.relid)) && true) && is_service (Sock port) o.dialed) (sym next_one) ∙ (λ i. ((same o.relid i && same o.relid i) && true) && mine i) in
-    let takes : service_offered g place (Sock port) 0 o.relid (Some o) ≡ turn = ap (λ b. if b then turn else idle g) is_it in
-    let one = ap count_dialed is in
-    let more : count + 1 ≡ offered_for plan phase done o left = omega (arith, one) in
-    let in_plan = at.in_plan in
-    let fresh : (q : ℕ) → count < q → q ≤ count + 1 → stands q ≡ offered_channel = λ q above few.
-    marked_apart (guest_is (vps_before plan phase) Opened) done (guest_before (vps_before plan phase) plan phase) q (all_weaker (λ p. p.relid ≤ count) (λ p. p.relid ≢ q) (λ p l e. absurd (omega (arith, l, e, above))) done (done_known plan phase place done o left planned at))
-    ∙ unopened plan (guest_ends (vps_before plan phase)) offered_channel phase q planned (omega (arith, in_plan)) (omega (arith, above)) in
-    let after = subst (λ n. Stand (guests ++ offered_channel ∷ []) n stands) more (stand_add guests count 1 stands offered_channel meet.stand fresh) in
-    let here = left_at plan phase place done (o ∷ left) at.phase_is at.place_is in
-    let back = sym here in
-    let fits = port_kind port o.dialed is fact.fits.port in
-    record {
-      turn = turn;
-      hears = ap (on_offer g (class_id (Sock port)) 0 o.relid) (kind_of_class (Sock port) (class_id (Sock port)) fits refl) ∙ ap (λ x. Ok (service_offered g place (Sock port) 0 o.relid x)) (opening_here plan phase place done o left at) ∙ ap (λ t. Ok t) takes;
-      goes = lists v (guests ++ offered_channel ∷ []) phase place done o left at (record { agreed = meet.agreed; stand = after });
-      says = λ sent sends.
-          let later : List Msg = guest_moves plan os ++ (flat_map guest_closes (closing_of plan phase) ++ guest_from plan (suc phase)) in
-          let whole = sym (cuts_so o.relid o.gpadl (pages_from o) sent sends) in
-          ap (λ xs. lists_dialed xs ++ later) here ∙ lists_more o left later ∙ (λ i. whole i ++ (opens_listed (back i) ++ later));
-      heard =
-          let later : List Msg = host_moves plan os ++ (flat_map host_closes (closing_of plan phase) ++ host_from plan (suc phase)) in
-          ap (λ xs. host_opens_all xs ++ later) here ∙ answers_more o left later ∙ ap (λ d. dial_offers o.relid d ++ (answers_list (o ∷ left) ++ later)) is ∙ ap (λ xs. m ∷ (answers_list xs ++ later)) back;
-    }
+and_both : (a b : Bool) → (not a && b) ≡ true → (a ≡ false) × (b ≡ true)
+and_both true b e = absurd (cc)
+and_both false b e = (refl, e)
 
--- GPADL_CREATED
-pub step_listed : (plan : BusPlan) (logs : Logs) (v : Version) (guests : List Channel) (phase place : ℕ) (done : List Opening) (o : Opening) (left : List Opening) → IsPlan plan
-    → At plan phase place done o left → Meet plan v guests (offered_for plan phase done o left) (marked (guest_is (vps_before plan phase) Opened) done (guest_before (vps_before plan phase) plan phase))
-    → GuestStep plan (a_guest plan logs (Some (PhaseStart phase)) (Created place) (Some v) guests) (created o.relid o.gpadl)
-step_listed plan logs v guests phase place done o left planned at meet =
-    let g : GuestSeen = a_guest plan logs (Some (PhaseStart phase)) (Created place) (Some v) guests in
-    let m : Msg = created o.relid o.gpadl in
-    let count : ℕ = offered_for plan phase done o left in
-    let fact = facts plan phase place done o left planned at in
-    let mine = offered_here plan phase place done o left planned at in
-    let c : Channel = guest_before (vps_before plan phase) plan phase o.relid in
-    let now : Channel = guest_is (vps_before plan phase) IsOpening o in
-    let turn_with : ℕ → GuestTurn = λ vp. record (idle g) { awaits = AwaitsOpened place; wished = Now o.relid (record { life = record { side = GuestSide; state = IsOpening; vp = vp }; gpadl = Some o.gpadl }); burst = One (open_on o) } in
-    let turn : GuestTurn = turn_with (vps_before plan phase o.relid) in
-    let vp_is : c.life.vp ≡ vps_before plan phase o.relid = vp_known plan (λ (c : Channel). c.life.vp) (guest_ends (vps_before plan phase)) offered_channel phase o.relid (λ p. refl) refl in
-    let known : by_relid guests o.relid ≡ Some c = stand_at guests count (guest_is (vps_before plan phase) Opened) done o (guest_before (vps_before plan phase) plan phase) c meet.stand fact.fits.named mine fact.done_apart refl in
-    let here : drop place (phase_of plan phase) ≡ o ∷ left = left_at plan phase place done (o ∷ left) at.phase_is at.place_is in
-    let asked : created_for g place o.relid o.gpadl 0 c (Some o) ≡ opens g place o (lived c WantOpen) = rw (same o.relid, same o.gpadl) refl in
-    let after : Stand (slice_set guests (o.relid - 1) now) count (marked (guest_is (vps_before plan phase) Opened) done (marked (guest_is (vps_before plan phase) IsOpening) (o ∷ []) (guest_before (vps_before plan phase) plan phase))) =
-    stand_mark guests count (guest_is (vps_before plan phase) Opened) (guest_is (vps_before plan phase) IsOpening) done o (guest_before (vps_before plan phase) plan phase) (guest_before (vps_before plan phase) plan phase) meet.stand fact.fits.named mine fact.done_apart (λ q off. refl) in
-    record {
-      turn = turn;
-      hears = ap (on_created g o.relid o.gpadl 0) known ∙ ap (λ x. Ok (created_for g place o.relid o.gpadl 0 c x)) (opening_here plan phase place done o left at) ∙ ap (λ t. Ok t) (asked ∙ ap (opens g place o) (can_open plan (vps_before plan phase) phase o.relid fact.not_before) ∙ ap turn_with vp_is);
-      goes = IsOpened v (slice_set guests (o.relid - 1) now) phase place done o left at (record { agreed = meet.agreed; stand = after });
-      says = λ sent e.
-          let asks = sym e in
-          let later : List Msg = guest_moves plan (phase_of plan phase) ++ (flat_map guest_closes (closing_of plan phase) ++ guest_from plan (suc phase)) in
-          ap (λ os. opens_listed os ++ later) here ∙ ap (λ os. open_on o ∷ (fills_opened os ++ later)) (sym here) ∙ ap (λ xs. xs ++ (fills_opened (drop place (phase_of plan phase)) ++ later)) asks;
-      heard =
-          let later : List Msg = host_moves plan (phase_of plan phase) ++ (flat_map host_closes (closing_of plan phase) ++ host_from plan (suc phase)) in
-          ap (λ os. answers_list os ++ later) here ∙ ap (λ os. m ∷ (answers_open os ++ later)) (sym here);
-    }
+no_sub_first : (left : List Opening) → first_subs left ≡ [] → is_of_sub (slice_get left 0) ≡ false
+no_sub_first [] none = refl
+no_sub_first (p ∷ left) none = by_sub (is_sub p) none
+  where
+    by_sub : (b : Bool) → (if b then p ∷ first_subs left else []) ≡ [] → b ≡ false
+    by_sub true wrong = absurd (cc)
+    by_sub false e = refl
 
--- OPENCHANNEL_RESULT: the channel is open
-record IsOpen (plan : BusPlan) (v : Version) (guests : List Channel) (phase place : ℕ) (done : List Opening) (o : Opening) (left : List Opening) : Type 0 where
-  known : by_relid guests o.relid ≡ Some (guest_is (vps_before plan phase) IsOpening o)
-  stand : Stand (slice_set guests (o.relid - 1) (guest_is (vps_before plan phase) Opened o)) (offered_for plan phase done o left) (marked (guest_is (vps_before plan phase) Opened) (done ++ o ∷ []) (guest_before (vps_before plan phase) plan phase))
-  next : opening_at plan phase (place + 1) ≡ slice_get left 0
-  answers : (later : List Msg) → answers_open (drop place (phase_of plan phase)) ++ later ≡ opened o.relid o.relid ∷ ((host_buffers o ++ (map offer_sub (subs_next (o ∷ left)) ++ host_opens_all left)) ++ later)
+and_false : (a b : Bool) → b ≡ false → (not a && b) ≡ false
+and_false true b e = refl
+and_false false b e = e
 
-is_open : (plan : BusPlan) (v : Version) (guests : List Channel) (phase place : ℕ) (done : List Opening) (o : Opening) (left : List Opening) → IsPlan plan
-    → At plan phase place done o left → Meet plan v guests (offered_for plan phase done o left) (marked (guest_is (vps_before plan phase) Opened) done (marked (guest_is (vps_before plan phase) IsOpening) (o ∷ []) (guest_before (vps_before plan phase) plan phase))) → IsOpen plan v guests phase place done o left
-is_open plan v guests phase place done o left planned at meet =
-    let fact = facts plan phase place done o left planned at in
-    let mine = offered_here plan phase place done o left planned at in
-    let count : ℕ = offered_for plan phase done o left in
-    let base : ℕ → Channel = guest_before (vps_before plan phase) plan phase in
-    record {
-      known = stand_at guests count (guest_is (vps_before plan phase) Opened) done o (marked (guest_is (vps_before plan phase) IsOpening) (o ∷ []) base) (guest_is (vps_before plan phase) IsOpening o) meet.stand fact.fits.named mine fact.done_apart (marked_here (guest_is (vps_before plan phase) IsOpening) o [] base);
-      stand = stand_join guests count (guest_is (vps_before plan phase) Opened) done o (marked (guest_is (vps_before plan phase) IsOpening) (o ∷ []) base) base meet.stand fact.fits.named mine fact.done_apart (λ q off. sym (marked_there (guest_is (vps_before plan phase) IsOpening) o [] base q off));
-      next = opening_from plan phase (place + 1) (done ++ o ∷ []) left (done_more plan phase place done o left at) (place_more plan phase place done o left at);
-      answers = λ later. ap (λ os. answers_open os ++ later) (left_at plan phase place done (o ∷ left) at.phase_is at.place_is);
-    }
+-- at the start of a phase
+module _ (plan : BusPlan) (logs : Logs) (v : Version) (guests : List Channel) (phase place : ℕ) (done : List Opening) (o : Opening) (left : List Opening) (planned : IsPlan plan) (at : At plan phase place done o left) where
+  abbrev os : List Opening
+  os = phase_of plan phase
 
--- the guest goes on with the next opening
-step_open_one : (plan : BusPlan) (logs : Logs) (v : Version) (guests : List Channel) (phase place : ℕ) (done : List Opening) (o : Opening) (left : List Opening) → IsPlan plan
-    → At plan phase place done o left → Meet plan v guests (offered_for plan phase done o left) (marked (guest_is (vps_before plan phase) Opened) done (marked (guest_is (vps_before plan phase) IsOpening) (o ∷ []) (guest_before (vps_before plan phase) plan phase)))
-    → o.buffers ≡ false → (not (is_sub o) && is_of_sub (opening_at plan phase (place + 1))) ≡ false → GuestStep plan (a_guest plan logs (Some (PhaseStart phase)) (AwaitsOpened place) (Some v) guests) (opened o.relid o.relid)
-step_open_one plan logs v guests phase place done o left planned at meet bare none =
-    let g : GuestSeen = a_guest plan logs (Some (PhaseStart phase)) (AwaitsOpened place) (Some v) guests in
-    let fact = facts plan phase place done o left planned at in
-    let m : Msg = opened o.relid o.relid in
-    let opened_so = is_open plan v guests phase place done o left planned at meet in
-    let now : Channel = guest_is (vps_before plan phase) Opened o in
-    let heard : GuestTurn = heard_so (AwaitsOpened place) v (Now o.relid now) in
-    let turn : GuestTurn = lists_next g (Some (PhaseStart phase)) heard (place + 1) (opening_at plan phase (place + 1)) in
-    let sent_on : opened_for g heard place o.relid 0 (Some o) ≡ opens_with g heard place o o.buffers = rw (same o.relid) refl in
-    let asked : opened_for g heard place o.relid 0 (Some o) ≡ opens_next g heard place o (opening_at plan phase (place + 1)) = sent_on ∙ ap (opens_with g heard place o) bare in
-    let on : opens_next g heard place o (opening_at plan phase (place + 1)) ≡ turn = ap (λ b. if b then record heard { awaits = SubOffer (place + 1) } else turn) none in
-    let no_subs = no_subs_next o left (sym (ap (λ x. not (is_sub o) && is_of_sub x) opened_so.next) ∙ none) in
-    let more = count_next plan phase done o left fact.fits.alone in
-    let no_more = ap length no_subs in
-    let same_count : offered_for plan phase done o left ≡ offered_by plan phase (done ++ o ∷ []) left = omega (arith, more, no_more) in
-    let after = subst (λ n. Stand (slice_set guests (o.relid - 1) now) n (marked (guest_is (vps_before plan phase) Opened) (done ++ o ∷ []) (guest_before (vps_before plan phase) plan phase))) same_count opened_so.stand in
-    let onward = next_list plan logs (Some (PhaseStart phase)) v guests phase (place + 1) (done ++ o ∷ []) left (AwaitsOpened place) (AwaitsOpened place) (Now o.relid now) planned at.in_plan (done_more plan phase place done o left at) (place_more plan phase place done o left at) (record { agreed = meet.agreed; stand = after })
-    (λ none relid some. then_now g o.relid relid now fact.fits.named (let many = meet.stand.many in let few = offered_here plan phase place done o left planned at in omega (arith, many, few)) some) in
-    record {
-      turn = turn;
-      hears = ap (on_result g o.relid 0) opened_so.known ∙ ap (λ x. Ok (opened_for g heard place o.relid 0 x)) (opening_here plan phase place done o left at) ∙ ap (λ t. Ok t) (asked ∙ on);
-      goes = onward.goes;
-      says = λ sent sends.
-          let later : List Msg = flat_map guest_closes (closing_of plan phase) ++ guest_from plan (suc phase) in
-          ap (λ os. fills_opened os ++ (guest_moves plan (phase_of plan phase) ++ later)) (left_at plan phase place done (o ∷ left) at.phase_is at.place_is) ∙ ap (λ b. ((if b then guest_buffer o Receive ++ guest_buffer o Send else []) ++ flat_map guest_opens left) ++ (guest_moves plan (phase_of plan phase) ++ later)) bare ∙ onward.says sent later sends;
-      heard =
-          let later : List Msg = flat_map host_closes (closing_of plan phase) ++ host_from plan (suc phase) in
-          let moves : List Msg = host_moves plan (phase_of plan phase) in
-          opened_so.answers (moves ++ later) ∙ ap (λ b. m ∷ (((if b then host_buffer o Receive ∷ host_buffer o Send ∷ [] else []) ++ (map offer_sub (subs_next (o ∷ left)) ++ host_opens_all left)) ++ (moves ++ later))) bare
-          ∙ ap (λ os. m ∷ ((map offer_sub os ++ host_opens_all left) ++ (moves ++ later))) no_subs ∙ ap (λ xs. m ∷ xs) (onward.heard later);
-    }
+  abbrev so : State → Opening → Channel
+  so = guest_is (vps_before plan phase)
+
+  abbrev base : ℕ → Channel
+  base = guest_before (vps_before plan phase) plan phase
+
+  abbrev waiting : GuestWait → GuestSeen
+  waiting awaits = a_guest plan logs (Some (PhaseStart phase)) awaits (Some v) guests
+
+  fact : Facts plan phase done o left
+  fact = facts plan phase place done o left planned at
+
+  mine : o.relid ≤ offered_for plan phase done o left
+  mine = offered_here plan phase place done o left planned at
+
+  here : drop place os ≡ o ∷ left
+  here = left_at plan phase place done (o ∷ left) at.phase_is at.place_is
+
+  back : o ∷ left ≡ drop place os
+  back = sym here
+
+  step_dialed : (port : ℕ) → o.dialed ≡ Some port → Meet plan v guests (offered_by plan phase done (o ∷ left)) (marked (so Opened) done base) → GuestStep plan (waiting (ServiceOffer place)) (offer_service port o.relid)
+  step_dialed port is meet =
+      let g : GuestSeen = waiting (ServiceOffer place) in
+      let m : Msg = offer_service port o.relid in
+      let turn : GuestTurn = lists_turn (heard_so (ServiceOffer place) v (Offered offered_channel)) place o in
+      let stands : ℕ → Channel = marked (so Opened) done base in
+      let count : ℕ = offered_by plan phase done (o ∷ left) in
+      let alone = fact.fits.alone (ap is_some is) in
+      let next_one : o.relid ≡ length guests + 1 = omega (arith, service_at plan phase place done o left planned at (ap is_some is), meet.stand.many) in
+      let mine : is_service (Sock port) o.dialed ≡ true = ap (is_service (Sock port)) is ∙ kind_same (Sock port) in
+      let is_it : is_service_offer g o (Sock port) 0 o.relid ≡ true = ap (λ n. (((o.relid == n) && (o.relid == o.relid)) && true) && is_service (Sock port) o.dialed) (sym next_one) ∙ (λ i. ((same o.relid i && same o.relid i) && true) && mine i) in
+      let takes : service_offered g place (Sock port) 0 o.relid (Some o) ≡ turn = ap (λ b. if b then turn else idle g) is_it in
+      let more : count + 1 ≡ offered_for plan phase done o left = omega (arith, ap count_dialed is) in
+      let fresh : (q : ℕ) → count < q → q ≤ count + 1 → stands q ≡ offered_channel = λ q above few.
+      marked_apart (so Opened) done base q (all_weaker (λ p. p.relid ≤ count) (λ p. p.relid ≢ q) (λ p l e. absurd (omega (arith, l, e, above))) done (done_known plan phase place done o left planned at))
+      ∙ unopened plan (guest_ends (vps_before plan phase)) offered_channel phase q planned (omega (arith, at.in_plan)) (omega (arith, above)) in
+      let after = subst (λ n. Stand (guests ++ offered_channel ∷ []) n stands) more (stand_add guests count 1 stands offered_channel meet.stand fresh) in
+      let fits = port_kind port o.dialed is fact.fits.port in
+      record {
+        turn = turn;
+        hears = ap (on_offer g (class_id (Sock port)) 0 o.relid) (kind_of_class (Sock port) (class_id (Sock port)) fits refl) ∙ ap (λ x. Ok (service_offered g place (Sock port) 0 o.relid x)) (opening_here plan phase place done o left at) ∙ ap (λ t. Ok t) takes;
+        goes = lists v (guests ++ offered_channel ∷ []) phase place done o left at (record { agreed = meet.agreed; stand = after });
+        says = λ sent sends.
+            let later : List Msg = guest_then plan phase in
+            ap (λ xs. lists_dialed xs ++ later) here ∙ lists_more o left later ∙ (λ i. (sym (cuts_so o.relid o.gpadl (pages_from o) sent sends)) i ++ (opens_listed (back i) ++ later));
+        heard =
+            let later : List Msg = host_then plan phase in
+            ap (λ xs. host_opens_all xs ++ later) here ∙ answers_more o left later ∙ ap (λ d. dial_offers o.relid d ++ (answers_list (o ∷ left) ++ later)) is ∙ ap (λ xs. m ∷ (answers_list xs ++ later)) back;
+      }
+
+  -- GPADL_CREATED
+  pub step_listed : Meet plan v guests (offered_for plan phase done o left) (marked (so Opened) done base) → GuestStep plan (waiting (Created place)) (created o.relid o.gpadl)
+  step_listed meet =
+      let g : GuestSeen = waiting (Created place) in
+      let count : ℕ = offered_for plan phase done o left in
+      let c : Channel = base o.relid in
+      let turn_with : ℕ → GuestTurn = λ vp. record (idle g) { awaits = AwaitsOpened place; wished = Now o.relid (record { life = record { side = GuestSide; state = IsOpening; vp = vp }; gpadl = Some o.gpadl }); burst = One (open_on o) } in
+      let turn : GuestTurn = turn_with (vps_before plan phase o.relid) in
+      let vp_is : c.life.vp ≡ vps_before plan phase o.relid = vp_known plan (λ (c : Channel). c.life.vp) (guest_ends (vps_before plan phase)) offered_channel phase o.relid (λ p. refl) refl in
+      let known : by_relid guests o.relid ≡ Some c = stand_at guests count (so Opened) done o base c meet.stand fact.fits.named mine fact.done_apart refl in
+      let asked : created_for g place o.relid o.gpadl 0 c (Some o) ≡ opens g place o (lived c WantOpen) = rw (same o.relid, same o.gpadl) refl in
+      let after : Stand (slice_set guests (o.relid - 1) (so IsOpening o)) count (marked (so Opened) done (marked (so IsOpening) (o ∷ []) base)) =
+      stand_mark guests count (so Opened) (so IsOpening) done o base base meet.stand fact.fits.named mine fact.done_apart (λ q off. refl) in
+      record {
+        turn = turn;
+        hears = ap (on_created g o.relid o.gpadl 0) known ∙ ap (λ x. Ok (created_for g place o.relid o.gpadl 0 c x)) (opening_here plan phase place done o left at) ∙ ap (λ t. Ok t) (asked ∙ ap (opens g place o) (can_open plan (vps_before plan phase) phase o.relid fact.not_before) ∙ ap turn_with vp_is);
+        goes = IsOpened v (slice_set guests (o.relid - 1) (so IsOpening o)) phase place done o left at (record { agreed = meet.agreed; stand = after });
+        says = λ sent e.
+            let later : List Msg = guest_then plan phase in
+            ap (λ os. opens_listed os ++ later) here ∙ ap (λ os. open_on o ∷ (fills_opened os ++ later)) back ∙ ap (λ xs. xs ++ (fills_opened (drop place os) ++ later)) (sym e);
+        heard = ap (λ os. answers_list os ++ host_then plan phase) here ∙ ap (λ os. (created o.relid o.gpadl) ∷ (answers_open os ++ host_then plan phase)) back;
+      }
+
+  -- OPENCHANNEL_RESULT: the channel is open
+  record IsOpen : Type 0 where
+    known : by_relid guests o.relid ≡ Some (so IsOpening o)
+    stand : Stand (slice_set guests (o.relid - 1) (so Opened o)) (offered_for plan phase done o left) (marked (so Opened) (done ++ o ∷ []) base)
+    next : opening_at plan phase (place + 1) ≡ slice_get left 0
+    answers : (later : List Msg) → answers_open (drop place os) ++ later ≡ opened o.relid o.relid ∷ ((host_buffers o ++ (map offer_sub (subs_next (o ∷ left)) ++ host_opens_all left)) ++ later)
+
+  is_open : Meet plan v guests (offered_for plan phase done o left) (marked (so Opened) done (marked (so IsOpening) (o ∷ []) base)) → IsOpen
+  is_open meet =
+      let count : ℕ = offered_for plan phase done o left in
+      record {
+        known = stand_at guests count (so Opened) done o (marked (so IsOpening) (o ∷ []) base) (so IsOpening o) meet.stand fact.fits.named mine fact.done_apart (marked_here (so IsOpening) o [] base);
+        stand = stand_join guests count (so Opened) done o (marked (so IsOpening) (o ∷ []) base) base meet.stand fact.fits.named mine fact.done_apart (λ q off. sym (marked_there (so IsOpening) o [] base q off));
+        next = opening_from plan phase (place + 1) (done ++ o ∷ []) left (done_more plan phase place done o left at) (place_more plan phase place done o left at);
+        answers = λ later. ap (λ os. answers_open os ++ later) here;
+      }
+
+  abbrev now_open : GuestTurn
+  now_open = heard_so (AwaitsOpened place) v (Now o.relid (so Opened o))
+
+  sent_on : opened_for (waiting (AwaitsOpened place)) now_open place o.relid 0 (Some o) ≡ opens_with (waiting (AwaitsOpened place)) now_open place o o.buffers
+  sent_on = rw (same o.relid) refl
+
+  -- the guest goes on with the next opening
+  step_open_one : Meet plan v guests (offered_for plan phase done o left) (marked (so Opened) done (marked (so IsOpening) (o ∷ []) base)) → o.buffers ≡ false → (not (is_sub o) && is_of_sub (opening_at plan phase (place + 1))) ≡ false → GuestStep plan (waiting (AwaitsOpened place)) (opened o.relid o.relid)
+  step_open_one meet bare none =
+      let g : GuestSeen = waiting (AwaitsOpened place) in
+      let m : Msg = opened o.relid o.relid in
+      let opened_so = is_open meet in
+      let turn : GuestTurn = lists_next g (Some (PhaseStart phase)) now_open (place + 1) (opening_at plan phase (place + 1)) in
+      let asked : opened_for g now_open place o.relid 0 (Some o) ≡ opens_next g now_open place o (opening_at plan phase (place + 1)) = sent_on ∙ ap (opens_with g now_open place o) bare in
+      let on : opens_next g now_open place o (opening_at plan phase (place + 1)) ≡ turn = ap (λ b. if b then record now_open { awaits = SubOffer (place + 1) } else turn) none in
+      let no_subs = no_subs_next o left (sym (ap (λ x. not (is_sub o) && is_of_sub x) opened_so.next) ∙ none) in
+      let same_count : offered_for plan phase done o left ≡ offered_by plan phase (done ++ o ∷ []) left = omega (arith, count_next plan phase done o left fact.fits.alone, ap length no_subs) in
+      let after = subst (λ n. Stand (slice_set guests (o.relid - 1) (so Opened o)) n (marked (so Opened) (done ++ o ∷ []) base)) same_count opened_so.stand in
+      let onward = next_list plan logs (Some (PhaseStart phase)) v guests phase (place + 1) (done ++ o ∷ []) left (AwaitsOpened place) (AwaitsOpened place) (Now o.relid (so Opened o)) planned at.in_plan (done_more plan phase place done o left at) (place_more plan phase place done o left at) (record { agreed = meet.agreed; stand = after })
+      (λ none relid some. then_now g o.relid relid (so Opened o) fact.fits.named (let many = meet.stand.many in let few = mine in omega (arith, many, few)) some) in
+      record {
+        turn = turn;
+        hears = ap (on_result g o.relid 0) opened_so.known ∙ ap (λ x. Ok (opened_for g now_open place o.relid 0 x)) (opening_here plan phase place done o left at) ∙ ap (λ t. Ok t) (asked ∙ on);
+        goes = onward.goes;
+        says = λ sent sends.
+            let later : List Msg = guest_onward plan phase in
+            ap (λ xs. fills_opened xs ++ (guest_moves plan os ++ later)) here ∙ ap (λ b. ((if b then guest_buffer o Receive ++ guest_buffer o Send else []) ++ flat_map guest_opens left) ++ (guest_moves plan os ++ later)) bare ∙ onward.says sent later sends;
+        heard =
+            let later : List Msg = host_onward plan phase in
+            let moves : List Msg = host_moves plan os in
+            opened_so.answers (moves ++ later) ∙ ap (λ b. m ∷ (((if b then host_buffer o Receive ∷ host_buffer o Send ∷ [] else []) ++ (map offer_sub (subs_next (o ∷ left)) ++ host_opens_all left)) ++ (moves ++ later))) bare
+            ∙ ap (λ os. m ∷ ((map offer_sub os ++ host_opens_all left) ++ (moves ++ later))) no_subs ∙ ap (λ xs. m ∷ xs) (onward.heard later);
+      }
+
+  -- the page lists of its buffers are sent, where it has some
+  step_open_fills : Meet plan v guests (offered_for plan phase done o left) (marked (so Opened) done (marked (so IsOpening) (o ∷ []) base)) → o.buffers ≡ true → GuestStep plan (waiting (AwaitsOpened place)) (opened o.relid o.relid)
+  step_open_fills meet has =
+      let g : GuestSeen = waiting (AwaitsOpened place) in
+      let m : Msg = opened o.relid o.relid in
+      let opened_so = is_open meet in
+      let turn : GuestTurn = fills_turn now_open place o Receive in
+      record {
+        turn = turn;
+        hears = ap (on_result g o.relid 0) opened_so.known ∙ ap (λ x. Ok (opened_for g now_open place o.relid 0 x)) (opening_here plan phase place done o left at) ∙ ap (λ t. Ok t) (sent_on ∙ ap (opens_with g now_open place o) has);
+        goes = IsFilling v (slice_set guests (o.relid - 1) (so Opened o)) phase place done o left Receive at has (record { agreed = meet.agreed; stand = opened_so.stand });
+        says = λ sent sends.
+            let opens : List Msg = flat_map guest_opens left in
+            let first : List Msg = guest_buffer o Receive in
+            let second : List Msg = guest_buffer o Send in
+            ap (λ xs. fills_opened xs ++ guest_then plan phase) here ∙ ap (λ b. ((if b then first ++ second else []) ++ opens) ++ guest_then plan phase) has
+            ∙ append_assoc (first ++ second) opens (guest_then plan phase) ∙ append_assoc first second (opens ++ guest_then plan phase) ∙ ap (λ xs. first ++ xs) (sym (append_assoc second opens (guest_then plan phase)))
+            ∙ (λ i. (sym (cuts_so o.relid (buffer_list o Receive) (buffer_pages o Receive) sent sends)) i ++ (fills_listed Receive (back i) ++ guest_then plan phase));
+        heard =
+            let later : List Msg = host_then plan phase in
+            opened_so.answers later ∙ ap (λ b. m ∷ (((if b then host_buffer o Receive ∷ host_buffer o Send ∷ [] else []) ++ (map offer_sub (subs_next (o ∷ left)) ++ host_opens_all left)) ++ later)) has
+            ∙ ap (λ xs. m ∷ (answers_fill Receive xs ++ later)) back;
+      }
+
+  -- GPADL_CREATED, for the page list of a buffer: behind that of the receive buffer that of the send buffer is sent
+  fill_known : Meet plan v guests (offered_for plan phase done o left) (marked (so Opened) (done ++ o ∷ []) base) → by_relid guests o.relid ≡ Some (so Opened o)
+  fill_known meet =
+      meet.stand.each o.relid fact.fits.named mine
+      ∙ ap (λ c. Some c) (marked_append (so Opened) done (o ∷ []) base o.relid ∙ marked_apart (so Opened) done (marked (so Opened) (o ∷ []) base) o.relid fact.done_apart ∙ marked_here (so Opened) o [] base)
+
+  step_filled_receive : o.buffers ≡ true → Meet plan v guests (offered_for plan phase done o left) (marked (so Opened) (done ++ o ∷ []) base) → GuestStep plan (waiting (Listed place Receive)) (host_buffer o Receive)
+  step_filled_receive has meet =
+      let g : GuestSeen = waiting (Listed place Receive) in
+      let handle : ℕ = buffer_list o Receive in
+      let turn : GuestTurn = fills_turn (idle g) place o Send in
+      let asked : filled_for g place Receive o.relid handle 0 (Some o) ≡ turn = rw (same o.relid, same handle) refl in
+      record {
+        turn = turn;
+        hears = ap (on_created g o.relid handle 0) (fill_known meet) ∙ ap (λ x. Ok (filled_for g place Receive o.relid handle 0 x)) (opening_here plan phase place done o left at) ∙ ap (λ t. Ok t) asked;
+        goes = IsFilling v guests phase place done o left Send at has meet;
+        says = λ sent sends.
+            let second : List Msg = guest_buffer o Send in
+            let whole : second ≡ sent = sym (cuts_so o.relid (buffer_list o Send) (buffer_pages o Send) sent sends) in
+            ap (λ xs. fills_listed Receive xs ++ guest_then plan phase) here ∙ append_assoc second (flat_map guest_opens left) (guest_then plan phase) ∙ (λ i. whole i ++ (fills_listed Send (back i) ++ guest_then plan phase));
+        heard = ap (λ xs. answers_fill Receive xs ++ host_then plan phase) here ∙ ap (λ xs. host_buffer o Receive ∷ (answers_fill Send xs ++ host_then plan phase)) back;
+      }
+
+  step_filled_send : o.buffers ≡ true → Meet plan v guests (offered_for plan phase done o left) (marked (so Opened) (done ++ o ∷ []) base) → GuestStep plan (waiting (Listed place Send)) (host_buffer o Send)
+  step_filled_send has meet =
+      let g : GuestSeen = waiting (Listed place Send) in
+      let m : Msg = host_buffer o Send in
+      let handle : ℕ = buffer_list o Send in
+      let heard : GuestTurn = heard_so (Listed place Send) v Same in
+      let turn : GuestTurn = lists_next g (Some (PhaseStart phase)) heard (place + 1) (opening_at plan phase (place + 1)) in
+      let asked : filled_for g place Send o.relid handle 0 (Some o) ≡ opens_next g heard place o (opening_at plan phase (place + 1)) = rw (same o.relid, same handle) refl in
+      let next : opening_at plan phase (place + 1) ≡ slice_get left 0 = opening_from plan phase (place + 1) (done ++ o ∷ []) left (done_more plan phase place done o left at) (place_more plan phase place done o left at) in
+      let no_first_sub = ap is_of_sub next ∙ no_sub_first left (none_first plan phase place done o left planned at has) in
+      let on : opens_next g heard place o (opening_at plan phase (place + 1)) ≡ turn = ap (λ b. if b then record heard { awaits = SubOffer (place + 1) } else turn) (and_false (is_sub o) (is_of_sub (opening_at plan phase (place + 1))) no_first_sub) in
+      let no_subs = none_behind plan phase place done o left planned at has in
+      let same_count : offered_for plan phase done o left ≡ offered_by plan phase (done ++ o ∷ []) left = omega (arith, count_next plan phase done o left fact.fits.alone, ap length no_subs) in
+      let after = subst (λ n. Meet plan v guests n (marked (so Opened) (done ++ o ∷ []) base)) same_count meet in
+      let onward = next_list plan logs (Some (PhaseStart phase)) v guests phase (place + 1) (done ++ o ∷ []) left (Listed place Send) (Listed place Send) Same planned at.in_plan (done_more plan phase place done o left at) (place_more plan phase place done o left at) after
+      (λ none relid some. refl) in
+      record {
+        turn = turn;
+        hears = ap (on_created g o.relid handle 0) (fill_known meet) ∙ ap (λ x. Ok (filled_for g place Send o.relid handle 0 x)) (opening_here plan phase place done o left at) ∙ ap (λ t. Ok t) (asked ∙ on);
+        goes = onward.goes;
+        says = λ sent sends. ap (λ xs. fills_listed Send xs ++ (guest_moves plan os ++ guest_onward plan phase)) here ∙ onward.says sent (guest_onward plan phase) sends;
+        heard =
+            let later : List Msg = host_onward plan phase in
+            let moves : List Msg = host_moves plan os in
+            ap (λ xs. answers_fill Send xs ++ (moves ++ later)) here ∙ ap (λ ps. m ∷ ((map offer_sub ps ++ host_opens_all left) ++ (moves ++ later))) no_subs ∙ ap (λ xs. m ∷ xs) (onward.heard later);
+      }
+
+  step_filled : (k : Buffer) → o.buffers ≡ true → Meet plan v guests (offered_for plan phase done o left) (marked (so Opened) (done ++ o ∷ []) base) → GuestStep plan (waiting (Listed place k)) (host_buffer o k)
+  step_filled Receive has meet = step_filled_receive has meet
+  step_filled Send has meet = step_filled_send has meet
 
 -- the offers of the device's sub-channels come before
 step_open_subs : (plan : BusPlan) (logs : Logs) (v : Version) (guests : List Channel) (phase place : ℕ) (done : List Opening) (o : Opening) (left : List Opening) → IsPlan plan
@@ -304,21 +371,19 @@ step_open_subs plan logs v guests phase place done o [] planned at meet bare is_
 step_open_subs plan logs v guests phase place done o (p ∷ left) planned at meet bare is_first is_next =
     let g : GuestSeen = a_guest plan logs (Some (PhaseStart phase)) (AwaitsOpened place) (Some v) guests in
     let m : Msg = opened o.relid o.relid in
-    let opened_so = is_open plan v guests phase place done o (p ∷ left) planned at meet in
+    let opened_so = is_open plan logs v guests phase place done o (p ∷ left) planned at meet in
     let now : Channel = guest_is (vps_before plan phase) Opened o in
     let heard : GuestTurn = heard_so (AwaitsOpened place) v (Now o.relid now) in
     let turn : GuestTurn = record heard { awaits = SubOffer (place + 1) } in
-    let next : opening_at plan phase (place + 1) ≡ Some p = opened_so.next in
     let one : Option Opening → GuestTurn = λ x. lists_next g (Some (PhaseStart phase)) heard (place + 1) x in
     let sent_on : opened_for g heard place o.relid 0 (Some o) ≡ opens_with g heard place o o.buffers = rw (same o.relid) refl in
     let asked : opened_for g heard place o.relid 0 (Some o) ≡ opens_next g heard place o (opening_at plan phase (place + 1)) = sent_on ∙ ap (opens_with g heard place o) bare in
     let on : opens_next g heard place o (opening_at plan phase (place + 1)) ≡ turn =
-    ap (opens_next g heard place o) next ∙ ap (λ b. if not b && is_sub p then turn else one (Some p)) is_first ∙ ap (λ b. if b then turn else one (Some p)) is_next in
+    ap (opens_next g heard place o) opened_so.next ∙ ap (λ b. if not b && is_sub p then turn else one (Some p)) is_first ∙ ap (λ b. if b then turn else one (Some p)) is_next in
     let there : At plan phase (place + 1) (done ++ o ∷ []) p left = record { in_plan = at.in_plan; phase_is = done_more plan phase place done o (p ∷ left) at; place_is = place_more plan phase place done o (p ∷ left) at } in
     let subs : AreSubs (p ∷ []) = (is_next, tt) in
     let spot = sub_at plan phase (place + 1) done o [] p left planned there is_first subs in
-    let fact = facts plan phase place done o (p ∷ left) planned at in
-    let counts = count_next plan phase done o (p ∷ left) fact.fits.alone in
+    let counts = count_next plan phase done o (p ∷ left) (facts plan phase place done o (p ∷ left) planned at).fits.alone in
     let behind : length (subs_next (o ∷ (p ∷ left))) ≡ length (first_subs (p ∷ left)) = ap (λ b. length (if b then [] else first_subs (p ∷ left))) is_first in
     let same_count : offered_for plan phase done o (p ∷ left) ≡ offered_by plan phase (done ++ o ∷ []) [] + 0 = omega (arith, counts, behind) in
     let after = subst (λ n. Stand (slice_set guests (o.relid - 1) now) n (marked (guest_is (vps_before plan phase) Opened) (done ++ o ∷ []) (guest_before (vps_before plan phase) plan phase))) same_count opened_so.stand in
@@ -327,55 +392,15 @@ step_open_subs plan logs v guests phase place done o (p ∷ left) planned at mee
       hears = ap (on_result g o.relid 0) opened_so.known ∙ ap (λ x. Ok (opened_for g heard place o.relid 0 x)) (opening_here plan phase place done o (p ∷ left) at) ∙ ap (λ t. Ok t) (asked ∙ on);
       goes = IsOffering v (slice_set guests (o.relid - 1) now) phase (place + 1) done o [] p left there is_first subs (record { agreed = meet.agreed; stand = after });
       says = λ sent e.
-          let later : List Msg = guest_moves plan (phase_of plan phase) ++ (flat_map guest_closes (closing_of plan phase) ++ guest_from plan (suc phase)) in
+          let later : List Msg = guest_then plan phase in
           ap (λ os. fills_opened os ++ later) (left_at plan phase place done (o ∷ (p ∷ left)) at.phase_is at.place_is) ∙ ap (λ b. ((if b then guest_buffer o Receive ++ guest_buffer o Send else []) ++ flat_map guest_opens (p ∷ left)) ++ later) bare
           ∙ ap (λ os. flat_map guest_opens os ++ later) (sym spot.from_first)
           ∙ ap (λ s. s ++ (flat_map guest_opens (from_first_sub (phase_of plan phase) (place + 1) (drop (place + 1) (phase_of plan phase))) ++ later)) (sym e);
       heard =
-          let later : List Msg = host_moves plan (phase_of plan phase) ++ (flat_map host_closes (closing_of plan phase) ++ host_from plan (suc phase)) in
-          let here = sym spot.here in
-          let back = sym spot.from_first in
+          let later : List Msg = host_then plan phase in
           opened_so.answers later ∙ ap (λ b. m ∷ (((if b then host_buffer o Receive ∷ host_buffer o Send ∷ [] else []) ++ (map offer_sub (subs_next (o ∷ (p ∷ left))) ++ host_opens_all (p ∷ left))) ++ later)) bare
           ∙ ap (λ b. m ∷ ((map offer_sub (if b then [] else first_subs (p ∷ left)) ++ host_opens_all (p ∷ left)) ++ later)) is_first
-          ∙ (λ i. m ∷ ((map offer_sub (first_subs (here i)) ++ host_opens_all (back i)) ++ later));
-    }
-
-and_both : (a b : Bool) → (not a && b) ≡ true → (a ≡ false) × (b ≡ true)
-and_both true b e = absurd (cc)
-and_both false b e = (refl, e)
-
--- the page lists of its buffers are sent, where it has some
-step_open_fills : (plan : BusPlan) (logs : Logs) (v : Version) (guests : List Channel) (phase place : ℕ) (done : List Opening) (o : Opening) (left : List Opening) → IsPlan plan
-    → At plan phase place done o left → Meet plan v guests (offered_for plan phase done o left) (marked (guest_is (vps_before plan phase) Opened) done (marked (guest_is (vps_before plan phase) IsOpening) (o ∷ []) (guest_before (vps_before plan phase) plan phase)))
-    → o.buffers ≡ true → GuestStep plan (a_guest plan logs (Some (PhaseStart phase)) (AwaitsOpened place) (Some v) guests) (opened o.relid o.relid)
-step_open_fills plan logs v guests phase place done o left planned at meet has =
-    let g : GuestSeen = a_guest plan logs (Some (PhaseStart phase)) (AwaitsOpened place) (Some v) guests in
-    let os : List Opening = phase_of plan phase in
-    let m : Msg = opened o.relid o.relid in
-    let opened_so = is_open plan v guests phase place done o left planned at meet in
-    let now : Channel = guest_is (vps_before plan phase) Opened o in
-    let heard : GuestTurn = heard_so (AwaitsOpened place) v (Now o.relid now) in
-    let turn : GuestTurn = fills_turn heard place o Receive in
-    let sent_on : opened_for g heard place o.relid 0 (Some o) ≡ opens_with g heard place o o.buffers = rw (same o.relid) refl in
-    let here = left_at plan phase place done (o ∷ left) at.phase_is at.place_is in
-    let back = sym here in
-    record {
-      turn = turn;
-      hears = ap (on_result g o.relid 0) opened_so.known ∙ ap (λ x. Ok (opened_for g heard place o.relid 0 x)) (opening_here plan phase place done o left at) ∙ ap (λ t. Ok t) (sent_on ∙ ap (opens_with g heard place o) has);
-      goes = IsFilling v (slice_set guests (o.relid - 1) now) phase place done o left Receive at has (record { agreed = meet.agreed; stand = opened_so.stand });
-      says = λ sent sends.
-          let later : List Msg = guest_moves plan os ++ (flat_map guest_closes (closing_of plan phase) ++ guest_from plan (suc phase)) in
-          let opens : List Msg = flat_map guest_opens left in
-          let first : List Msg = guest_buffer o Receive in
-          let second : List Msg = guest_buffer o Send in
-          let whole : first ≡ sent = sym (cuts_so o.relid (buffer_list o Receive) (buffer_pages o Receive) sent sends) in
-          ap (λ xs. fills_opened xs ++ later) here ∙ ap (λ b. ((if b then first ++ second else []) ++ opens) ++ later) has
-          ∙ append_assoc (first ++ second) opens later ∙ append_assoc first second (opens ++ later) ∙ ap (λ xs. first ++ xs) (sym (append_assoc second opens later))
-          ∙ (λ i. whole i ++ (fills_listed Receive (back i) ++ later));
-      heard =
-          let later : List Msg = host_moves plan os ++ (flat_map host_closes (closing_of plan phase) ++ host_from plan (suc phase)) in
-          opened_so.answers later ∙ ap (λ b. m ∷ (((if b then host_buffer o Receive ∷ host_buffer o Send ∷ [] else []) ++ (map offer_sub (subs_next (o ∷ left)) ++ host_opens_all left)) ++ later)) has
-          ∙ ap (λ xs. m ∷ (answers_fill Receive xs ++ later)) back;
+          ∙ (λ i. m ∷ ((map offer_sub (first_subs ((sym spot.here) i)) ++ host_opens_all ((sym spot.from_first) i)) ++ later));
     }
 
 step_open_bare : (plan : BusPlan) (logs : Logs) (v : Version) (guests : List Channel) (phase place : ℕ) (done : List Opening) (o : Opening) (left : List Opening) → IsPlan plan
@@ -395,98 +420,6 @@ step_open plan logs v guests phase place done o left planned at meet =
     (λ e. step_open_fills plan logs v guests phase place done o left planned at meet e)
     (λ e. step_open_bare plan logs v guests phase place done o left planned at meet e)
 
--- GPADL_CREATED, for the page list of a buffer: behind that of the receive buffer that of the send buffer is sent
-fill_known : (plan : BusPlan) (v : Version) (guests : List Channel) (phase place : ℕ) (done : List Opening) (o : Opening) (left : List Opening) → IsPlan plan → At plan phase place done o left
-    → Meet plan v guests (offered_for plan phase done o left) (marked (guest_is (vps_before plan phase) Opened) (done ++ o ∷ []) (guest_before (vps_before plan phase) plan phase)) → by_relid guests o.relid ≡ Some (guest_is (vps_before plan phase) Opened o)
-fill_known plan v guests phase place done o left planned at meet =
-    let so : Opening → Channel = guest_is (vps_before plan phase) Opened in
-    let base : ℕ → Channel = guest_before (vps_before plan phase) plan phase in
-    let fact = facts plan phase place done o left planned at in
-    meet.stand.each o.relid fact.fits.named (offered_here plan phase place done o left planned at)
-    ∙ ap (λ c. Some c) (marked_append so done (o ∷ []) base o.relid ∙ marked_apart so done (marked so (o ∷ []) base) o.relid fact.done_apart ∙ marked_here so o [] base)
-
-step_filled_receive : (plan : BusPlan) (logs : Logs) (v : Version) (guests : List Channel) (phase place : ℕ) (done : List Opening) (o : Opening) (left : List Opening) → IsPlan plan
-    → At plan phase place done o left → o.buffers ≡ true → Meet plan v guests (offered_for plan phase done o left) (marked (guest_is (vps_before plan phase) Opened) (done ++ o ∷ []) (guest_before (vps_before plan phase) plan phase))
-    → GuestStep plan (a_guest plan logs (Some (PhaseStart phase)) (Listed place Receive) (Some v) guests) (host_buffer o Receive)
-step_filled_receive plan logs v guests phase place done o left planned at has meet =
-    let g : GuestSeen = a_guest plan logs (Some (PhaseStart phase)) (Listed place Receive) (Some v) guests in
-    let os : List Opening = phase_of plan phase in
-    let handle : ℕ = buffer_list o Receive in
-    let turn : GuestTurn = fills_turn (idle g) place o Send in
-    let known = fill_known plan v guests phase place done o left planned at meet in
-    let asked : filled_for g place Receive o.relid handle 0 (Some o) ≡ turn = rw (same o.relid, same handle) refl in
-    let here = left_at plan phase place done (o ∷ left) at.phase_is at.place_is in
-    let back = sym here in
-    record {
-      turn = turn;
-      hears = ap (on_created g o.relid handle 0) known ∙ ap (λ x. Ok (filled_for g place Receive o.relid handle 0 x)) (opening_here plan phase place done o left at) ∙ ap (λ t. Ok t) asked;
-      goes = IsFilling v guests phase place done o left Send at has meet;
-      says = λ sent sends.
-          let later : List Msg = guest_moves plan os ++ (flat_map guest_closes (closing_of plan phase) ++ guest_from plan (suc phase)) in
-          let second : List Msg = guest_buffer o Send in
-          let whole : second ≡ sent = sym (cuts_so o.relid (buffer_list o Send) (buffer_pages o Send) sent sends) in
-          ap (λ xs. fills_listed Receive xs ++ later) here ∙ append_assoc second (flat_map guest_opens left) later ∙ (λ i. whole i ++ (fills_listed Send (back i) ++ later));
-      heard =
-          let later : List Msg = host_moves plan os ++ (flat_map host_closes (closing_of plan phase) ++ host_from plan (suc phase)) in
-          ap (λ xs. answers_fill Receive xs ++ later) here ∙ ap (λ xs. host_buffer o Receive ∷ (answers_fill Send xs ++ later)) back;
-    }
-
--- and behind that of the send buffer the guest goes on
-no_sub_first : (left : List Opening) → first_subs left ≡ [] → is_of_sub (slice_get left 0) ≡ false
-no_sub_first [] none = refl
-no_sub_first (p ∷ left) none = by_sub (is_sub p) none
-  where
-    by_sub : (b : Bool) → (if b then p ∷ first_subs left else []) ≡ [] → b ≡ false
-    by_sub true wrong = absurd (cc)
-    by_sub false e = refl
-
-and_false : (a b : Bool) → b ≡ false → (not a && b) ≡ false
-and_false true b e = refl
-and_false false b e = e
-
-step_filled_send : (plan : BusPlan) (logs : Logs) (v : Version) (guests : List Channel) (phase place : ℕ) (done : List Opening) (o : Opening) (left : List Opening) → IsPlan plan
-    → At plan phase place done o left → o.buffers ≡ true → Meet plan v guests (offered_for plan phase done o left) (marked (guest_is (vps_before plan phase) Opened) (done ++ o ∷ []) (guest_before (vps_before plan phase) plan phase))
-    → GuestStep plan (a_guest plan logs (Some (PhaseStart phase)) (Listed place Send) (Some v) guests) (host_buffer o Send)
-step_filled_send plan logs v guests phase place done o left planned at has meet =
-    let g : GuestSeen = a_guest plan logs (Some (PhaseStart phase)) (Listed place Send) (Some v) guests in
-    let os : List Opening = phase_of plan phase in
-    let m : Msg = host_buffer o Send in
-    let handle : ℕ = buffer_list o Send in
-    let fact = facts plan phase place done o left planned at in
-    let heard : GuestTurn = heard_so (Listed place Send) v Same in
-    let turn : GuestTurn = lists_next g (Some (PhaseStart phase)) heard (place + 1) (opening_at plan phase (place + 1)) in
-    let known = fill_known plan v guests phase place done o left planned at meet in
-    let asked : filled_for g place Send o.relid handle 0 (Some o) ≡ opens_next g heard place o (opening_at plan phase (place + 1)) = rw (same o.relid, same handle) refl in
-    let next : opening_at plan phase (place + 1) ≡ slice_get left 0 = opening_from plan phase (place + 1) (done ++ o ∷ []) left (done_more plan phase place done o left at) (place_more plan phase place done o left at) in
-    let no_first_sub = ap is_of_sub next ∙ no_sub_first left (none_first plan phase place done o left planned at has) in
-    let on : opens_next g heard place o (opening_at plan phase (place + 1)) ≡ turn = ap (λ b. if b then record heard { awaits = SubOffer (place + 1) } else turn) (and_false (is_sub o) (is_of_sub (opening_at plan phase (place + 1))) no_first_sub) in
-    let no_subs = none_behind plan phase place done o left planned at has in
-    let more = count_next plan phase done o left fact.fits.alone in
-    let no_more = ap length no_subs in
-    let same_count : offered_for plan phase done o left ≡ offered_by plan phase (done ++ o ∷ []) left = omega (arith, more, no_more) in
-    let after = subst (λ n. Meet plan v guests n (marked (guest_is (vps_before plan phase) Opened) (done ++ o ∷ []) (guest_before (vps_before plan phase) plan phase))) same_count meet in
-    let onward = next_list plan logs (Some (PhaseStart phase)) v guests phase (place + 1) (done ++ o ∷ []) left (Listed place Send) (Listed place Send) Same planned at.in_plan (done_more plan phase place done o left at) (place_more plan phase place done o left at) after
-    (λ none relid some. refl) in
-    let here = left_at plan phase place done (o ∷ left) at.phase_is at.place_is in
-    record {
-      turn = turn;
-      hears = ap (on_created g o.relid handle 0) known ∙ ap (λ x. Ok (filled_for g place Send o.relid handle 0 x)) (opening_here plan phase place done o left at) ∙ ap (λ t. Ok t) (asked ∙ on);
-      goes = onward.goes;
-      says = λ sent sends.
-          let later : List Msg = flat_map guest_closes (closing_of plan phase) ++ guest_from plan (suc phase) in
-          ap (λ xs. fills_listed Send xs ++ (guest_moves plan os ++ later)) here ∙ onward.says sent later sends;
-      heard =
-          let later : List Msg = flat_map host_closes (closing_of plan phase) ++ host_from plan (suc phase) in
-          let moves : List Msg = host_moves plan os in
-          ap (λ xs. answers_fill Send xs ++ (moves ++ later)) here ∙ ap (λ ps. m ∷ ((map offer_sub ps ++ host_opens_all left) ++ (moves ++ later))) no_subs ∙ ap (λ xs. m ∷ xs) (onward.heard later);
-    }
-
-step_filled : (plan : BusPlan) (logs : Logs) (v : Version) (guests : List Channel) (phase place : ℕ) (done : List Opening) (o : Opening) (left : List Opening) (k : Buffer) → IsPlan plan
-    → At plan phase place done o left → o.buffers ≡ true → Meet plan v guests (offered_for plan phase done o left) (marked (guest_is (vps_before plan phase) Opened) (done ++ o ∷ []) (guest_before (vps_before plan phase) plan phase))
-    → GuestStep plan (a_guest plan logs (Some (PhaseStart phase)) (Listed place k) (Some v) guests) (host_buffer o k)
-step_filled plan logs v guests phase place done o left Receive planned at has meet = step_filled_receive plan logs v guests phase place done o left planned at has meet
-step_filled plan logs v guests phase place done o left Send planned at has meet = step_filled_send plan logs v guests phase place done o left planned at has meet
-
 -- OFFERCHANNEL of a sub-channel: the channel is offered
 record IsOffered (plan : BusPlan) (logs : Logs) (v : Version) (guests : List Channel) (phase place : ℕ) (done : List Opening) (first : Opening) (offered : List Opening) (o : Opening) (left : List Opening) : Type 0 where
   hears : guest_hears (a_guest plan logs (Some (PhaseStart phase)) (SubOffer place) (Some v) guests) (offer_sub o)
@@ -505,15 +438,12 @@ is_offered plan logs v guests phase place done first offered o left planned at i
     let count : ℕ = offered_by plan phase (done ++ first ∷ []) [] + length offered in
     let base : ℕ → Channel = guest_before (vps_before plan phase) plan phase in
     let heard : GuestTurn = heard_so (SubOffer place) v (Offered offered_channel) in
-    let many = meet.stand.many in
-    let relid_is = spot.relid_is in
-    let next_one : o.relid ≡ length guests + 1 = omega (arith, relid_is, many) in
+    let next_one : o.relid ≡ length guests + 1 = omega (arith, spot.relid_is, meet.stand.many) in
     let is_it : is_sub_offer g o Disk o.sub o.relid ≡ true = ap (λ n. (((o.relid == n) && (o.relid == o.relid)) && (o.sub == o.sub)) && true) (sym next_one) ∙ (λ i. ((same o.relid i && same o.relid i) && same o.sub i) && true) in
     let takes : sub_offered g place Disk o.sub o.relid (Some o) ≡ goes_behind g heard place o = ap (λ b. if b then goes_behind g heard place o else idle g) is_it in
-    let in_plan = at.in_plan in
     let fresh : (q : ℕ) → count < q → q ≤ count + 1 → marked (guest_is (vps_before plan phase) Opened) (done ++ first ∷ []) base q ≡ offered_channel = λ q above few.
     marked_apart (guest_is (vps_before plan phase) Opened) (done ++ first ∷ []) base q (all_weaker (λ p. p.relid ≤ offered_by plan phase (done ++ first ∷ []) []) (λ p. p.relid ≢ q) (λ p l e. absurd (omega (arith, l, e, above))) (done ++ first ∷ []) spot.known)
-    ∙ unopened plan (guest_ends (vps_before plan phase)) offered_channel phase q planned (omega (arith, in_plan)) (omega (arith, above)) in
+    ∙ unopened plan (guest_ends (vps_before plan phase)) offered_channel phase q planned (omega (arith, at.in_plan)) (omega (arith, above)) in
     record {
       hears = ap (on_offer g (class_id Disk) o.sub o.relid) (kind_of_class Disk (class_id Disk) tt refl) ∙ ap (λ x. Ok (sub_offered g place Disk o.sub o.relid x)) (opening_here plan phase place front o left at) ∙ ap (λ t. Ok t) takes;
       stand = stand_add guests count 1 (marked (guest_is (vps_before plan phase) Opened) (done ++ first ∷ []) base) offered_channel meet.stand fresh;
@@ -528,17 +458,13 @@ step_offer_more : (plan : BusPlan) (logs : Logs) (v : Version) (guests : List Ch
 step_offer_more plan logs v guests phase place done first offered o [] planned at is_first subs meet is_next = absurd (cc)
 step_offer_more plan logs v guests phase place done first offered o (p ∷ left) planned at is_first subs meet is_next =
     let g : GuestSeen = a_guest plan logs (Some (PhaseStart phase)) (SubOffer place) (Some v) guests in
-    let m : Msg = offer_sub o in
     let os : List Opening = phase_of plan phase in
     let front : List Opening = done ++ first ∷ offered in
     let on = is_offered plan logs v guests phase place done first offered o (p ∷ left) planned at is_first subs meet in
     let spot = sub_at plan phase place done first offered o (p ∷ left) planned at is_first subs in
     let heard : GuestTurn = heard_so (SubOffer place) v (Offered offered_channel) in
     let turn : GuestTurn = record heard { awaits = SubOffer (place + 1) } in
-    let other : GuestTurn = lists_next g (Some (PhaseStart phase)) heard (place + 1 - o.sub) (opening_at plan phase (place + 1 - o.sub)) in
-    let next : is_of_sub (opening_at plan phase (place + 1)) ≡ true = ap is_of_sub on.next ∙ is_next in
-    let joined : front ++ o ∷ [] ≡ done ++ first ∷ (offered ++ o ∷ []) = append_assoc done (first ∷ offered) (o ∷ []) in
-    let there : At plan phase (place + 1) (done ++ first ∷ (offered ++ o ∷ [])) p left = subst (λ xs. At plan phase (place + 1) xs p left) joined
+    let there : At plan phase (place + 1) (done ++ first ∷ (offered ++ o ∷ [])) p left = subst (λ xs. At plan phase (place + 1) xs p left) (append_assoc done (first ∷ offered) (o ∷ []))
     (record { in_plan = at.in_plan; phase_is = done_more plan phase place front o (p ∷ left) at; place_is = place_more plan phase place front o (p ∷ left) at }) in
     let more : AreSubs ((offered ++ o ∷ []) ++ p ∷ []) = all_snoc (λ q. is_sub q ≡ true) (offered ++ o ∷ []) p subs is_next in
     let spot2 = sub_at plan phase (place + 1) done first (offered ++ o ∷ []) p left planned there is_first more in
@@ -546,21 +472,16 @@ step_offer_more plan logs v guests phase place done first offered o (p ∷ left)
     let count : (offered_by plan phase (done ++ first ∷ []) [] + length offered) + 1 ≡ offered_by plan phase (done ++ first ∷ []) [] + length (offered ++ o ∷ []) = omega (arith, sum) in
     let after = subst (λ n. Stand (guests ++ offered_channel ∷ []) n (marked (guest_is (vps_before plan phase) Opened) (done ++ first ∷ []) (guest_before (vps_before plan phase) plan phase))) count on.stand in
     let same_front : from_first_sub os place (drop place os) ≡ from_first_sub os (place + 1) (drop (place + 1) os) = spot.from_first ∙ sym (append_assoc offered (o ∷ []) (p ∷ left)) ∙ sym spot2.from_first in
-    let here = spot.here in
-    let here2 = sym spot2.here in
     let one = (all_front (λ q. is_sub q ≡ true) offered (o ∷ []) subs).1.0 in
     record {
       turn = turn;
-      hears = on.hears ∙ ap (λ b. Ok (if b then turn else other)) next;
+      hears = on.hears ∙ ap (λ b. Ok (if b then turn else (lists_next g (Some (PhaseStart phase)) heard (place + 1 - o.sub) (opening_at plan phase (place + 1 - o.sub))))) (ap is_of_sub on.next ∙ is_next);
       goes = IsOffering v (guests ++ offered_channel ∷ []) phase (place + 1) done first (offered ++ o ∷ []) p left there is_first more (record { agreed = meet.agreed; stand = after });
-      says = λ sent e.
-          let later : List Msg = guest_moves plan (phase_of plan phase) ++ (flat_map guest_closes (closing_of plan phase) ++ guest_from plan (suc phase)) in
-          ap (λ xs. flat_map guest_opens xs ++ later) same_front ∙ ap (λ s. s ++ (flat_map guest_opens (from_first_sub os (place + 1) (drop (place + 1) os)) ++ later)) (sym e);
+      says = λ sent e. ap (λ xs. flat_map guest_opens xs ++ guest_then plan phase) same_front ∙ ap (λ s. s ++ (flat_map guest_opens (from_first_sub os (place + 1) (drop (place + 1) os)) ++ guest_then plan phase)) (sym e);
       heard =
-          let later : List Msg = host_moves plan (phase_of plan phase) ++ (flat_map host_closes (closing_of plan phase) ++ host_from plan (suc phase)) in
-          (λ i. (map offer_sub (first_subs (here i)) ++ host_opens_all (same_front i)) ++ later)
-          ∙ ap (λ b. (map offer_sub (if b then o ∷ first_subs (p ∷ left) else []) ++ host_opens_all (from_first_sub os (place + 1) (drop (place + 1) os))) ++ later) one
-          ∙ ap (λ xs. m ∷ ((map offer_sub (first_subs xs) ++ host_opens_all (from_first_sub os (place + 1) (drop (place + 1) os))) ++ later)) here2;
+          (λ i. (map offer_sub (first_subs (spot.here i)) ++ host_opens_all (same_front i)) ++ host_then plan phase)
+          ∙ ap (λ b. (map offer_sub (if b then o ∷ first_subs (p ∷ left) else []) ++ host_opens_all (from_first_sub os (place + 1) (drop (place + 1) os))) ++ host_then plan phase) one
+          ∙ ap (λ xs. (offer_sub o) ∷ ((map offer_sub (first_subs xs) ++ host_opens_all (from_first_sub os (place + 1) (drop (place + 1) os))) ++ host_then plan phase)) (sym spot2.here);
     }
 
 -- all of them are, and the first one's page list is sent
@@ -569,7 +490,6 @@ step_offer_last : (plan : BusPlan) (logs : Logs) (v : Version) (guests : List Ch
     → Meet plan v guests (offered_by plan phase (done ++ first ∷ []) [] + length offered) (marked (guest_is (vps_before plan phase) Opened) (done ++ first ∷ []) (guest_before (vps_before plan phase) plan phase)) → is_of_sub (slice_get left 0) ≡ false
     → GuestStep plan (a_guest plan logs (Some (PhaseStart phase)) (SubOffer place) (Some v) guests) (offer_sub o)
 step_offer_last plan logs v guests phase place done first offered o left planned at is_first subs meet last =
-    let g : GuestSeen = a_guest plan logs (Some (PhaseStart phase)) (SubOffer place) (Some v) guests in
     let m : Msg = offer_sub o in
     let os : List Opening = phase_of plan phase in
     let on = is_offered plan logs v guests phase place done first offered o left planned at is_first subs meet in
@@ -578,34 +498,26 @@ step_offer_last plan logs v guests phase place done first offered o left planned
     let front : List Opening = done ++ first ∷ [] in
     let back : ℕ = place + 1 - o.sub in
     let heard : GuestTurn = heard_so (SubOffer place) v (Offered offered_channel) in
-    let turn : GuestTurn = lists_next g (Some (PhaseStart phase)) heard back (opening_at plan phase back) in
+    let turn : GuestTurn = lists_next (a_guest plan logs (Some (PhaseStart phase)) (SubOffer place) (Some v) guests) (Some (PhaseStart phase)) heard back (opening_at plan phase back) in
     let other : GuestTurn = record heard { awaits = SubOffer (place + 1) } in
-    let next : is_of_sub (opening_at plan phase (place + 1)) ≡ false = ap is_of_sub on.next ∙ last in
     let none = no_first left last in
     let all : first_subs behind ≡ offered ++ o ∷ [] = ap first_subs (sym (append_assoc offered (o ∷ []) left)) ∙ first_run (offered ++ o ∷ []) left subs ∙ ap (λ xs. (offered ++ o ∷ []) ++ xs) none ∙ append-nil (offered ++ o ∷ []) in
-    let long = ap length all in
-    let sum = length-append offered (o ∷ []) in
-    let count : (offered_by plan phase (done ++ first ∷ []) [] + length offered) + 1 ≡ offered_by plan phase front behind = omega (arith, long, sum) in
+    let count : (offered_by plan phase (done ++ first ∷ []) [] + length offered) + 1 ≡ offered_by plan phase front behind = omega (arith, ap length all, length-append offered (o ∷ [])) in
     let after = subst (λ n. Stand (guests ++ offered_channel ∷ []) n (marked (guest_is (vps_before plan phase) Opened) front (guest_before (vps_before plan phase) plan phase))) count on.stand in
-    let one = (all_front (λ q. is_sub q ≡ true) offered (o ∷ []) subs).1.0 in
-    let here = spot.here in
     let from = spot.from_first in
     let onward = next_list plan logs (Some (PhaseStart phase)) v guests phase back front behind (SubOffer place) (SubOffer place) (Offered offered_channel) planned at.in_plan spot.split spot.back (record { agreed = meet.agreed; stand = after })
     (λ none. let some = ap length none in let both = length-append offered (o ∷ left) in absurd (omega (arith, some, both))) in
     record {
       turn = turn;
-      hears = on.hears ∙ ap (λ b. Ok (if b then other else turn)) next;
+      hears = on.hears ∙ ap (λ b. Ok (if b then other else turn)) (ap is_of_sub on.next ∙ last);
       goes = onward.goes;
-      says = λ sent sends.
-          let later : List Msg = flat_map guest_closes (closing_of plan phase) ++ guest_from plan (suc phase) in
-          ap (λ xs. flat_map guest_opens xs ++ (guest_moves plan (phase_of plan phase) ++ later)) from ∙ onward.says sent later sends;
+      says = λ sent sends. ap (λ xs. flat_map guest_opens xs ++ (guest_moves plan (phase_of plan phase) ++ guest_onward plan phase)) from ∙ onward.says sent (guest_onward plan phase) sends;
       heard =
-          let later : List Msg = flat_map host_closes (closing_of plan phase) ++ host_from plan (suc phase) in
           let moves : List Msg = host_moves plan (phase_of plan phase) in
-          (λ i. (map offer_sub (first_subs (here i)) ++ host_opens_all (from i)) ++ (moves ++ later))
-          ∙ ap (λ b. (map offer_sub (if b then o ∷ first_subs left else []) ++ host_opens_all behind) ++ (moves ++ later)) one
-          ∙ ap (λ xs. m ∷ ((map offer_sub xs ++ host_opens_all behind) ++ (moves ++ later))) none
-          ∙ ap (λ xs. m ∷ xs) (onward.heard later);
+          (λ i. (map offer_sub (first_subs (spot.here i)) ++ host_opens_all (from i)) ++ (moves ++ host_onward plan phase))
+          ∙ ap (λ b. (map offer_sub (if b then o ∷ first_subs left else []) ++ host_opens_all behind) ++ (moves ++ host_onward plan phase)) ((all_front (λ q. is_sub q ≡ true) offered (o ∷ []) subs).1.0)
+          ∙ ap (λ xs. m ∷ ((map offer_sub xs ++ host_opens_all behind) ++ (moves ++ host_onward plan phase))) none
+          ∙ ap (λ xs. m ∷ xs) (onward.heard (host_onward plan phase));
     }
 
 pub step_sub_offered : (plan : BusPlan) (logs : Logs) (v : Version) (guests : List Channel) (phase place : ℕ) (done : List Opening) (first : Opening) (offered : List Opening) (o : Opening) (left : List Opening) → IsPlan plan
@@ -651,11 +563,10 @@ step_modified plan logs v guests phase place done o left planned in_plan is at a
       hears = ap (on_modified g o.relid) here ∙ ap (λ ms. Ok (turn_with ms)) (movers_are plan v phase planned meet.agreed);
       goes = onward.goes;
       says = λ sent e.
-          let later : List Msg = flat_map guest_closes (closing_of plan phase) ++ guest_from plan (suc phase) in
           let waits : GuestWait = (turn_with (moved plan os)).awaits in
-          onward.says later ∙ ap (λ s. s ++ (start_to_say os waits ++ (moves_to_say plan os waits ++ later))) (sym e);
+          onward.says (guest_onward plan phase) ∙ ap (λ s. s ++ (start_to_say os waits ++ (moves_to_say plan os waits ++ guest_onward plan phase))) (sym e);
       heard =
-          let later : List Msg = flat_map host_closes (closing_of plan phase) ++ host_from plan (suc phase) in
+          let later : List Msg = host_onward plan phase in
           let says : List Opening → List Msg = λ ps. map (λ p. modified p.relid) ps in
           ap (λ n. drop n (host_moves plan os) ++ later) at ∙ ap (λ xs. xs ++ later) (host_rest plan os done (o ∷ left) is) ∙ ap (λ b. (if b then says (o ∷ left) else []) ++ later) yes_it_answers
           ∙ ap (λ b. m ∷ ((if b then says left else []) ++ later)) (sym yes_it_answers) ∙ ap (λ xs. m ∷ xs) (onward.heard later);
@@ -679,235 +590,206 @@ goes_so : (plan : BusPlan) (v : Version) (guests : List Channel) (phase place : 
 goes_so plan v guests phase place done o left waits first planned at stand next =
     let os : List Opening = closing_of plan phase in
     let turn : GuestTurn = turn_end plan guests phase place (heard_end plan phase waits v o first) in
-    let later : List Msg = guest_from plan (suc phase) in
     let more = ends_more plan phase place done o left at in
     let behind = ends_place plan phase place done o left at in
     let ends = guest_goes plan v guests phase (place + 1) (done ++ o ∷ []) left waits (Now o.relid (guest_ends (vps_before plan (suc phase)) o)) first planned at.in_plan more behind stand next in
-    let said = ends_said plan phase (place + 1) (done ++ o ∷ []) left at.in_plan more behind in
     record {
       ends = ends;
       says = λ sent sends.
-          let is = ends.said sent sends in
-          ap (λ xs. option_to_list first ++ (xs ++ later)) said
-          ∙ ap (λ xs. option_to_list first ++ xs) (append_assoc (guest_next_sends left) (end_to_say os (guest_next_awaits (place + 1) left)) later)
-          ∙ sym (append_assoc (option_to_list first) (guest_next_sends left) (end_to_say os (guest_next_awaits (place + 1) left) ++ later))
-          ∙ ap (λ xs. xs ++ (end_to_say os (guest_next_awaits (place + 1) left) ++ later)) (sym is)
-          ∙ ap (λ w. sent ++ (end_to_say os w ++ later)) (sym ends.awaits);
+          ap (λ xs. option_to_list first ++ (xs ++ guest_from plan (suc phase))) (ends_said plan phase (place + 1) (done ++ o ∷ []) left at.in_plan more behind)
+          ∙ ap (λ xs. option_to_list first ++ xs) (append_assoc (guest_next_sends left) (end_to_say os (guest_next_awaits (place + 1) left)) (guest_from plan (suc phase)))
+          ∙ sym (append_assoc (option_to_list first) (guest_next_sends left) (end_to_say os (guest_next_awaits (place + 1) left) ++ guest_from plan (suc phase)))
+          ∙ ap (λ xs. xs ++ (end_to_say os (guest_next_awaits (place + 1) left) ++ guest_from plan (suc phase))) (sym (ends.said sent sends))
+          ∙ ap (λ w. sent ++ (end_to_say os w ++ guest_from plan (suc phase))) (sym ends.awaits);
       heard = ends_heard plan phase (place + 1) (done ++ o ∷ []) left more behind ∙ ap (end_to_hear os) (sym ends.awaits);
     }
 
--- GPADL_TORNDOWN, for the page list of a buffer: behind that of the send buffer that of the receive buffer is torn down, and behind both the channel is closed
-step_emptied : (plan : BusPlan) (logs : Logs) (v : Version) (guests : List Channel) (phase place : ℕ) (done : List Opening) (o : Opening) (left : List Opening) (k : Buffer) → IsPlan plan
-    → EndsAt plan phase place done o left → o.rescinded ≡ false → o.buffers ≡ true
-    → Meet plan v guests (offered_before plan (suc phase)) (marked (guest_ends (vps_before plan (suc phase))) done (marked (guest_is (vps_before plan (suc phase)) Opened) (o ∷ left) (guest_before (vps_before plan (suc phase)) plan phase)))
-    → GuestStep plan (a_guest plan logs (Some (PhaseEnd phase)) (Unlisted place k) (Some v) guests) (torndown (buffer_list o k))
-step_emptied plan logs v guests phase place done o left Send planned at closed has meet =
-    let g : GuestSeen = a_guest plan logs (Some (PhaseEnd phase)) (Unlisted place Send) (Some v) guests in
-    let here_is = closing_here plan phase place done o left at in
-    let handle : ℕ = buffer_list o Send in
-    let mine : empties_list Send handle (closing_at plan phase place) ≡ true = ap (empties_list Send handle) here_is ∙ same handle in
-    let other = torn_rings g handle (place_of_list guests handle) in
-    let here = ends_left plan phase place done (o ∷ left) at.closing_is at.place_is in
-    let back = sym here in
-    record {
-      turn = empties (idle g) place o Receive;
-      hears = ap (λ b. if b then Ok (emptied_at g place Send (closing_at plan phase place)) else other) mine ∙ ap (λ x. Ok (emptied_at g place Send x)) here_is;
-      goes = IsEmptying v guests phase place done o left Receive at closed has meet;
-      says = λ sent e.
-          let later : List Msg = guest_from plan (suc phase) in
-          ap (λ os. empties_left Send os ++ later) here ∙ ap (λ os. teardown_buffer o Receive ∷ (empties_left Receive os ++ later)) back ∙ ap (λ s. s ++ (empties_left Receive (drop place (closing_of plan phase)) ++ later)) (sym e);
-      heard =
-          let later : List Msg = host_from plan (suc phase) in
-          ap (λ os. emptied_left Send os ++ later) here ∙ ap (λ os. torndown handle ∷ (emptied_left Receive os ++ later)) back;
-    }
-step_emptied plan logs v guests phase place done o left Receive planned at closed has meet =
-    let g : GuestSeen = a_guest plan logs (Some (PhaseEnd phase)) (Unlisted place Receive) (Some v) guests in
-    let fact = end_facts plan phase place done o left planned at in
-    let here_is = closing_here plan phase place done o left at in
-    let handle : ℕ = buffer_list o Receive in
-    let base : ℕ → Channel = guest_before (vps_before plan (suc phase)) plan phase in
-    let so : Opening → Channel = guest_is (vps_before plan (suc phase)) Opened in
-    let mine : empties_list Receive handle (closing_at plan phase place) ≡ true = ap (empties_list Receive handle) here_is ∙ same handle in
-    let other = torn_rings g handle (place_of_list guests handle) in
-    let known : by_relid guests o.relid ≡ Some (so o) = stand_at guests (offered_before plan (suc phase)) (guest_ends (vps_before plan (suc phase))) done o (marked so (o ∷ left) base) (so o) meet.stand fact.fits.named fact.known fact.done_apart (marked_here so o left base) in
-    let ends = guest_open plan v guests phase place done o left (Unlisted place Receive) Same None false planned at meet.stand known in
-    let turn : GuestTurn = closes_one (idle g) guests place o in
-    let stands : ℕ → Channel = marked (guest_ends (vps_before plan (suc phase))) done (marked (guest_is (vps_before plan (suc phase)) Closing) (o ∷ []) (marked so left base)) in
-    let here = ends_left plan phase place done (o ∷ left) at.closing_is at.place_is in
-    let back = sym here in
-    record {
-      turn = turn;
-      hears = ap (λ b. if b then Ok (emptied_at g place Receive (closing_at plan phase place)) else other) mine ∙ ap (λ x. Ok (emptied_at g place Receive x)) here_is;
-      goes = guest_stands_so plan phase v (Some (PhaseEnd phase)) guests turn (Torn place) stands (close o.relid ∷ teardown o ∷ []) ends
-          (IsClosing v (changed (changed guests turn.heard) turn.wished) phase place done o left at closed (record { agreed = meet.agreed; stand = ends.guest }));
-      says = λ sent sends.
-          let later : List Msg = guest_from plan (suc phase) in
-          let said = sym (ends.said sent sends) in
-          let waits = sym ends.awaits in
-          ap (λ os. empties_left Receive os ++ later) here ∙ ap (λ os. close o.relid ∷ teardown o ∷ (gives_sub os ++ later)) back ∙ (λ i. said i ++ (end_to_say (closing_of plan phase) (waits i) ++ later));
-      heard =
-          let later : List Msg = host_from plan (suc phase) in
-          let waits = sym ends.awaits in
-          ap (λ os. emptied_left Receive os ++ later) here ∙ ap (λ os. torndown handle ∷ (torn_left os ++ later)) back ∙ (λ i. torndown handle ∷ (end_to_hear (closing_of plan phase) (waits i) ++ later));
-    }
-
--- GPADL_TORNDOWN: the channel of an opening is closed
+-- what the guest heard, as it goes on
 abbrev closed_turn : BusPlan → ℕ → Version → ℕ → Opening → GuestTurn
 closed_turn plan phase v place o = heard_with (Torn place) v (Now o.relid (guest_is (vps_before plan (suc phase)) Closed o)) None
 
-on_torn : (plan : BusPlan) (logs : Logs) (v : Version) (guests : List Channel) (phase place : ℕ) (done : List Opening) (o : Opening) (left : List Opening) → IsPlan plan
-    → EndsAt plan phase place done o left → Meet plan v guests (offered_before plan (suc phase)) (marked (guest_ends (vps_before plan (suc phase))) done (marked (guest_is (vps_before plan (suc phase)) Closing) (o ∷ []) (marked (guest_is (vps_before plan (suc phase)) Opened) left (guest_before (vps_before plan (suc phase)) plan phase))))
-    → guest_hears (a_guest plan logs (Some (PhaseEnd phase)) (Torn place) (Some v) guests) (torndown o.gpadl) ≡ Ok (torn_then (a_guest plan logs (Some (PhaseEnd phase)) (Torn place) (Some v) guests) (closed_turn plan phase v place o) place o.relid o)
-on_torn plan logs v guests phase place done o left planned at meet =
-    let g : GuestSeen = a_guest plan logs (Some (PhaseEnd phase)) (Torn place) (Some v) guests in
-    let fact = end_facts plan phase place done o left planned at in
-    let base : ℕ → Channel = marked (guest_is (vps_before plan (suc phase)) Opened) left (guest_before (vps_before plan (suc phase)) plan phase) in
-    let stands : ℕ → Channel = marked (guest_ends (vps_before plan (suc phase))) done (marked (guest_is (vps_before plan (suc phase)) Closing) (o ∷ []) base) in
-    let heard : ℕ → GuestTurn = λ relid. heard_with (Torn place) v (Now relid (guest_is (vps_before plan (suc phase)) Closed o)) None in
-    let closing : stands o.relid ≡ guest_is (vps_before plan (suc phase)) Closing o = marked_apart (guest_ends (vps_before plan (suc phase))) done (marked (guest_is (vps_before plan (suc phase)) Closing) (o ∷ []) base) o.relid fact.done_apart ∙ marked_here (guest_is (vps_before plan (suc phase)) Closing) o [] base in
-    let known : slice_get guests (o.relid - 1) ≡ Some (guest_is (vps_before plan (suc phase)) Closing o) = sym (at_relid guests o.relid fact.fits.named) ∙ meet.stand.each o.relid fact.fits.named fact.known ∙ ap (λ c. Some c) closing in
-    let mine : is_handle o.gpadl (stands o.relid).gpadl ≡ true = ap (λ c. is_handle o.gpadl c.gpadl) closing ∙ same o.gpadl in
-    let found : place_of_list guests o.gpadl ≡ Some (o.relid - 1) = find_list guests (offered_before plan (suc phase)) stands o.relid o.gpadl meet.stand fact.fits.named fact.known mine (closing_handle plan (vps_before plan (suc phase)) phase done o left fact) in
-    let named = fact.fits.named in
-    let back : o.relid - 1 + 1 ≡ o.relid = omega (arith, named) in
-    ap (torn_rings g o.gpadl) found ∙ ap (torn_at g o.gpadl (o.relid - 1)) known ∙ ap (λ r. Ok (torn_for g (heard r) place r (closing_at plan phase place))) back
-    ∙ ap (λ x. Ok (torn_for g (heard o.relid) place o.relid x)) (closing_here plan phase place done o left at)
-
--- a first channel is done with then
-step_torn_first : (plan : BusPlan) (logs : Logs) (v : Version) (guests : List Channel) (phase place : ℕ) (done : List Opening) (o : Opening) (left : List Opening) → IsPlan plan
-    → EndsAt plan phase place done o left → o.rescinded ≡ false → is_sub o ≡ false
-    → Meet plan v guests (offered_before plan (suc phase)) (marked (guest_ends (vps_before plan (suc phase))) done (marked (guest_is (vps_before plan (suc phase)) Closing) (o ∷ []) (marked (guest_is (vps_before plan (suc phase)) Opened) left (guest_before (vps_before plan (suc phase)) plan phase))))
-    → GuestStep plan (a_guest plan logs (Some (PhaseEnd phase)) (Torn place) (Some v) guests) (torndown o.gpadl)
-step_torn_first plan logs v guests phase place done o left planned at closed is_first meet =
-    let g : GuestSeen = a_guest plan logs (Some (PhaseEnd phase)) (Torn place) (Some v) guests in
-    let m : Msg = torndown o.gpadl in
-    let count : ℕ = offered_before plan (suc phase) in
-    let fact = end_facts plan phase place done o left planned at in
-    let base : ℕ → Channel = marked (guest_is (vps_before plan (suc phase)) Opened) left (guest_before (vps_before plan (suc phase)) plan phase) in
-    let kept : ends_given_back o ≡ false = ap (λ b. b || is_sub o) closed ∙ is_first in
-    let so : guest_ends (vps_before plan (suc phase)) o ≡ guest_is (vps_before plan (suc phase)) Closed o = ap (λ b. guest_is (vps_before plan (suc phase)) (end_state b) o) kept in
-    let turn : GuestTurn = turn_end plan guests phase place (heard_end plan phase (Torn place) v o None) in
-    let heard : Channel → GuestTurn = λ now. heard_with (Torn place) v (Now o.relid now) None in
-    let taken : GuestTurn = record (closed_turn plan phase v place o) { awaits = Rescinded place } in
-    let asked : torn_then g (closed_turn plan phase v place o) place o.relid o ≡ turn_end plan guests phase place (closed_turn plan phase v place o) =
-    ap (λ b. if b && is_sub o then taken else (if b then turn_end plan guests phase place (closed_turn plan phase v place o) else closed_turn plan phase v place o)) (same o.relid)
-    ∙ ap (λ b. if b then taken else turn_end plan guests phase place (closed_turn plan phase v place o)) is_first in
-    let after : Stand (slice_set guests (o.relid - 1) (guest_ends (vps_before plan (suc phase)) o)) count (marked (guest_ends (vps_before plan (suc phase))) (done ++ o ∷ []) base) =
-    stand_join guests count (guest_ends (vps_before plan (suc phase))) done o (marked (guest_is (vps_before plan (suc phase)) Closing) (o ∷ []) base) base meet.stand fact.fits.named fact.known fact.done_apart (λ q off. sym (marked_there (guest_is (vps_before plan (suc phase)) Closing) o [] base q off)) in
-    let next = next_is plan guests phase place (guest_ends (vps_before plan (suc phase))) (guest_is (vps_before plan (suc phase)) Closing) (guest_is (vps_before plan (suc phase)) Opened) done o left (guest_before (vps_before plan (suc phase)) plan phase) planned at meet.stand in
-    let on = goes_so plan v guests phase place done o left (Torn place) None planned at after next in
-    let here = ends_left plan phase place done (o ∷ left) at.closing_is at.place_is in
-    record {
-      turn = turn;
-      hears = on_torn plan logs v guests phase place done o left planned at meet ∙ ap (λ t. Ok t) asked ∙ ap (λ c. Ok (turn_end plan guests phase place (heard c))) (sym so);
-      goes = guest_stands_so plan phase v (Some (PhaseEnd phase)) guests turn (guest_next_awaits (place + 1) left) (marked (guest_ends (vps_before plan (suc phase))) (done ++ o ∷ []) (guest_next_stands (vps_before plan (suc phase)) left (guest_before (vps_before plan (suc phase)) plan phase))) (option_to_list None ++ guest_next_sends left) on.ends
-          (guest_next plan v (changed (changed guests turn.heard) turn.wished) phase (place + 1) (done ++ o ∷ []) left planned at.in_plan (ends_more plan phase place done o left at) (ends_place plan phase place done o left at) (record { agreed = meet.agreed; stand = on.ends.guest }));
-      says = λ sent sends.
-          let later : List Msg = guest_from plan (suc phase) in
-          ap (λ os. gives_sub os ++ later) here ∙ ap (λ b. ((if b then release o.relid ∷ [] else []) ++ flat_map guest_closes left) ++ later) is_first ∙ on.says sent sends;
-      heard =
-          let later : List Msg = host_from plan (suc phase) in
-          ap (λ os. torn_left os ++ later) here
-          ∙ ap (λ b. m ∷ (((if b then rescind o.relid ∷ [] else []) ++ flat_map host_closes left) ++ later)) is_first ∙ ap (λ xs. m ∷ (xs ++ later)) on.heard;
-    }
-
--- a sub-channel is to be rescinded then
-step_torn_sub : (plan : BusPlan) (logs : Logs) (v : Version) (guests : List Channel) (phase place : ℕ) (done : List Opening) (o : Opening) (left : List Opening) → IsPlan plan
-    → EndsAt plan phase place done o left → o.rescinded ≡ false → is_sub o ≡ true
-    → Meet plan v guests (offered_before plan (suc phase)) (marked (guest_ends (vps_before plan (suc phase))) done (marked (guest_is (vps_before plan (suc phase)) Closing) (o ∷ []) (marked (guest_is (vps_before plan (suc phase)) Opened) left (guest_before (vps_before plan (suc phase)) plan phase))))
-    → GuestStep plan (a_guest plan logs (Some (PhaseEnd phase)) (Torn place) (Some v) guests) (torndown o.gpadl)
-step_torn_sub plan logs v guests phase place done o left planned at closed sub meet =
-    let g : GuestSeen = a_guest plan logs (Some (PhaseEnd phase)) (Torn place) (Some v) guests in
-    let m : Msg = torndown o.gpadl in
-    let count : ℕ = offered_before plan (suc phase) in
-    let fact = end_facts plan phase place done o left planned at in
-    let base : ℕ → Channel = marked (guest_is (vps_before plan (suc phase)) Opened) left (guest_before (vps_before plan (suc phase)) plan phase) in
-    let turn : GuestTurn = record (closed_turn plan phase v place o) { awaits = Rescinded place } in
-    let asked : torn_then g (closed_turn plan phase v place o) place o.relid o ≡ turn =
-    ap (λ b. if b && is_sub o then turn else (if b then turn_end plan guests phase place (closed_turn plan phase v place o) else closed_turn plan phase v place o)) (same o.relid)
-    ∙ ap (λ b. if b then turn else turn_end plan guests phase place (closed_turn plan phase v place o)) sub in
-    let after : Stand (slice_set guests (o.relid - 1) (guest_is (vps_before plan (suc phase)) Closed o)) count (marked (guest_ends (vps_before plan (suc phase))) done (marked (guest_is (vps_before plan (suc phase)) Closed) (o ∷ []) base)) =
-    stand_mark guests count (guest_ends (vps_before plan (suc phase))) (guest_is (vps_before plan (suc phase)) Closed) done o (marked (guest_is (vps_before plan (suc phase)) Closing) (o ∷ []) base) base meet.stand fact.fits.named fact.known fact.done_apart (λ q off. sym (marked_there (guest_is (vps_before plan (suc phase)) Closing) o [] base q off)) in
-    let here = ends_left plan phase place done (o ∷ left) at.closing_is at.place_is in
-    record {
-      turn = turn;
-      hears = on_torn plan logs v guests phase place done o left planned at meet ∙ ap (λ t. Ok t) asked;
-      goes = gives_sub_back v (slice_set guests (o.relid - 1) (guest_is (vps_before plan (suc phase)) Closed o)) phase place done o left at closed sub (record { agreed = meet.agreed; stand = after });
-      says = λ sent e.
-          let later : List Msg = guest_from plan (suc phase) in
-          ap (λ os. gives_sub os ++ later) here ∙ ap (λ b. ((if b then release o.relid ∷ [] else []) ++ flat_map guest_closes left) ++ later) sub ∙ ap (λ os. gives_one os ++ later) (sym here)
-          ∙ ap (λ s. s ++ (gives_one (drop place (closing_of plan phase)) ++ later)) (sym e);
-      heard =
-          let later : List Msg = host_from plan (suc phase) in
-          ap (λ os. torn_left os ++ later) here
-          ∙ ap (λ b. m ∷ (((if b then rescind o.relid ∷ [] else []) ++ flat_map host_closes left) ++ later)) sub ∙ ap (λ os. m ∷ (takes_one os ++ later)) (sym here);
-    }
-
-pub step_torn : (plan : BusPlan) (logs : Logs) (v : Version) (guests : List Channel) (phase place : ℕ) (done : List Opening) (o : Opening) (left : List Opening) → IsPlan plan
-    → EndsAt plan phase place done o left → o.rescinded ≡ false
-    → Meet plan v guests (offered_before plan (suc phase)) (marked (guest_ends (vps_before plan (suc phase))) done (marked (guest_is (vps_before plan (suc phase)) Closing) (o ∷ []) (marked (guest_is (vps_before plan (suc phase)) Opened) left (guest_before (vps_before plan (suc phase)) plan phase))))
-    → GuestStep plan (a_guest plan logs (Some (PhaseEnd phase)) (Torn place) (Some v) guests) (torndown o.gpadl)
-step_torn plan logs v guests phase place done o left planned at closed meet =
-    by_test {P = GuestStep plan (a_guest plan logs (Some (PhaseEnd phase)) (Torn place) (Some v) guests) (torndown o.gpadl)} (is_sub o)
-    (λ e. step_torn_sub plan logs v guests phase place done o left planned at closed e meet)
-    (λ e. step_torn_first plan logs v guests phase place done o left planned at closed e meet)
-
--- RESCIND_CHANNELOFFER: the channel is open, or it is a sub-channel that was closed
 abbrev rescinded_so : Version → ℕ → Opening → Channel → GuestTurn
 rescinded_so v place o now = heard_with (Rescinded place) v (Now o.relid now) (Some (release o.relid))
 
-step_rescinds : (plan : BusPlan) (logs : Logs) (v : Version) (guests : List Channel) (phase place : ℕ) (done : List Opening) (o : Opening) (left : List Opening) (state : State) → IsPlan plan
-    → EndsAt plan phase place done o left → ends_given_back o ≡ true
-    → on_rescind (a_guest plan logs (Some (PhaseEnd phase)) (Rescinded place) (Some v) guests) o.relid (Some (guest_is (vps_before plan (suc phase)) state o)) ≡ Ok (ended_for (a_guest plan logs (Some (PhaseEnd phase)) (Rescinded place) (Some v) guests) (rescinded_so v place o (guest_is (vps_before plan (suc phase)) Released o)) place o.relid (closing_at plan phase place))
-    → Meet plan v guests (offered_before plan (suc phase)) (marked (guest_ends (vps_before plan (suc phase))) done (marked (guest_is (vps_before plan (suc phase)) state) (o ∷ []) (marked (guest_is (vps_before plan (suc phase)) Opened) left (guest_before (vps_before plan (suc phase)) plan phase))))
-    → GuestStep plan (a_guest plan logs (Some (PhaseEnd phase)) (Rescinded place) (Some v) guests) (rescind o.relid)
-step_rescinds plan logs v guests phase place done o left state planned at gone takes meet =
-    let g : GuestSeen = a_guest plan logs (Some (PhaseEnd phase)) (Rescinded place) (Some v) guests in
-    let m : Msg = rescind o.relid in
-    let first : Option Msg = Some (release o.relid) in
-    let count : ℕ = offered_before plan (suc phase) in
-    let fact = end_facts plan phase place done o left planned at in
-    let base : ℕ → Channel = marked (guest_is (vps_before plan (suc phase)) Opened) left (guest_before (vps_before plan (suc phase)) plan phase) in
-    let so : guest_ends (vps_before plan (suc phase)) o ≡ guest_is (vps_before plan (suc phase)) Released o = ap (λ b. guest_is (vps_before plan (suc phase)) (end_state b) o) gone in
-    let turn : GuestTurn = turn_end plan guests phase place (heard_end plan phase (Rescinded place) v o first) in
-    let known : by_relid guests o.relid ≡ Some (guest_is (vps_before plan (suc phase)) state o) = stand_at guests count (guest_ends (vps_before plan (suc phase))) done o (marked (guest_is (vps_before plan (suc phase)) state) (o ∷ []) base) (guest_is (vps_before plan (suc phase)) state o) meet.stand fact.fits.named fact.known fact.done_apart (marked_here (guest_is (vps_before plan (suc phase)) state) o [] base) in
-    let asked : ended_for g (rescinded_so v place o (guest_ends (vps_before plan (suc phase)) o)) place o.relid (Some o) ≡ turn = ap (λ b. if b then turn else rescinded_so v place o (guest_ends (vps_before plan (suc phase)) o)) (same o.relid) in
-    let after : Stand (slice_set guests (o.relid - 1) (guest_ends (vps_before plan (suc phase)) o)) count (marked (guest_ends (vps_before plan (suc phase))) (done ++ o ∷ []) base) =
-    stand_join guests count (guest_ends (vps_before plan (suc phase))) done o (marked (guest_is (vps_before plan (suc phase)) state) (o ∷ []) base) base meet.stand fact.fits.named fact.known fact.done_apart (λ q off. sym (marked_there (guest_is (vps_before plan (suc phase)) state) o [] base q off)) in
-    let next = next_is plan guests phase place (guest_ends (vps_before plan (suc phase))) (guest_is (vps_before plan (suc phase)) state) (guest_is (vps_before plan (suc phase)) Opened) done o left (guest_before (vps_before plan (suc phase)) plan phase) planned at meet.stand in
-    let on = goes_so plan v guests phase place done o left (Rescinded place) first planned at after next in
-    let here = ends_left plan phase place done (o ∷ left) at.closing_is at.place_is in
-    record {
-      turn = turn;
-      hears = ap (on_rescind g o.relid) known ∙ takes
-          ∙ ap (λ c. Ok (ended_for g (rescinded_so v place o c) place o.relid (closing_at plan phase place))) (sym so)
-          ∙ ap (λ x. Ok (ended_for g (rescinded_so v place o (guest_ends (vps_before plan (suc phase)) o)) place o.relid x)) (closing_here plan phase place done o left at) ∙ ap (λ t. Ok t) asked;
-      goes = guest_stands_so plan phase v (Some (PhaseEnd phase)) guests turn (guest_next_awaits (place + 1) left) (marked (guest_ends (vps_before plan (suc phase))) (done ++ o ∷ []) (guest_next_stands (vps_before plan (suc phase)) left (guest_before (vps_before plan (suc phase)) plan phase))) (option_to_list first ++ guest_next_sends left) on.ends
-          (guest_next plan v (changed (changed guests turn.heard) turn.wished) phase (place + 1) (done ++ o ∷ []) left planned at.in_plan (ends_more plan phase place done o left at) (ends_place plan phase place done o left at) (record { agreed = meet.agreed; stand = on.ends.guest }));
-      says = λ sent sends. ap (λ os. gives_one os ++ guest_from plan (suc phase)) here ∙ on.says sent sends;
-      heard = ap (λ os. takes_one os ++ host_from plan (suc phase)) here ∙ ap (λ xs. m ∷ (xs ++ host_from plan (suc phase))) on.heard;
-    }
+-- at the end of a phase
+module _ (plan : BusPlan) (logs : Logs) (v : Version) (guests : List Channel) (phase place : ℕ) (done : List Opening) (o : Opening) (left : List Opening) (planned : IsPlan plan) (at : EndsAt plan phase place done o left) where
+  abbrev end_so : State → Opening → Channel
+  end_so = guest_is (vps_before plan (suc phase))
 
-pub step_gives : (plan : BusPlan) (logs : Logs) (v : Version) (guests : List Channel) (phase place : ℕ) (done : List Opening) (o : Opening) (left : List Opening) → IsPlan plan
-    → EndsAt plan phase place done o left → o.rescinded ≡ true
-    → Meet plan v guests (offered_before plan (suc phase)) (marked (guest_ends (vps_before plan (suc phase))) done (marked (guest_is (vps_before plan (suc phase)) Opened) (o ∷ left) (guest_before (vps_before plan (suc phase)) plan phase)))
-    → GuestStep plan (a_guest plan logs (Some (PhaseEnd phase)) (Rescinded place) (Some v) guests) (rescind o.relid)
-step_gives plan logs v guests phase place done o left planned at gone meet =
-    step_rescinds plan logs v guests phase place done o left Opened planned at (ap (λ b. b || is_sub o) gone) refl (record { agreed = meet.agreed; stand = meet.stand })
+  abbrev as_left : Opening → Channel
+  as_left = guest_ends (vps_before plan (suc phase))
 
-pub step_gives_sub : (plan : BusPlan) (logs : Logs) (v : Version) (guests : List Channel) (phase place : ℕ) (done : List Opening) (o : Opening) (left : List Opening) → IsPlan plan
-    → EndsAt plan phase place done o left → o.rescinded ≡ false → is_sub o ≡ true
-    → Meet plan v guests (offered_before plan (suc phase)) (marked (guest_ends (vps_before plan (suc phase))) done (marked (guest_is (vps_before plan (suc phase)) Closed) (o ∷ []) (marked (guest_is (vps_before plan (suc phase)) Opened) left (guest_before (vps_before plan (suc phase)) plan phase))))
-    → GuestStep plan (a_guest plan logs (Some (PhaseEnd phase)) (Rescinded place) (Some v) guests) (rescind o.relid)
-step_gives_sub plan logs v guests phase place done o left planned at closed sub meet =
-    step_rescinds plan logs v guests phase place done o left Closed planned at (ap (λ b. b || is_sub o) closed ∙ sub) refl meet
+  abbrev not_yet : ℕ → Channel
+  not_yet = marked (end_so Opened) left (guest_before (vps_before plan (suc phase)) plan phase)
+
+  abbrev ending : GuestWait → GuestSeen
+  ending awaits = a_guest plan logs (Some (PhaseEnd phase)) awaits (Some v) guests
+
+  end_fact : Facts plan phase done o left
+  end_fact = end_facts plan phase place done o left planned at
+
+  end_here : drop place (closing_of plan phase) ≡ o ∷ left
+  end_here = ends_left plan phase place done (o ∷ left) at.closing_is at.place_is
+
+  end_back : o ∷ left ≡ drop place (closing_of plan phase)
+  end_back = sym end_here
+
+  -- GPADL_TORNDOWN, for the page list of a buffer: behind that of the send buffer that of the receive buffer is torn down, and behind both the channel is closed
+  step_emptied : (k : Buffer) → o.rescinded ≡ false → o.buffers ≡ true → Meet plan v guests (offered_before plan (suc phase)) (marked as_left done (marked (end_so Opened) (o ∷ left) (guest_before (vps_before plan (suc phase)) plan phase))) → GuestStep plan (ending (Unlisted place k)) (torndown (buffer_list o k))
+  step_emptied Send closed has meet =
+      let g : GuestSeen = ending (Unlisted place Send) in
+      let here_is = closing_here plan phase place done o left at in
+      let handle : ℕ = buffer_list o Send in
+      let mine : empties_list Send handle (closing_at plan phase place) ≡ true = ap (empties_list Send handle) here_is ∙ same handle in
+      record {
+        turn = empties (idle g) place o Receive;
+        hears = ap (λ b. if b then Ok (emptied_at g place Send (closing_at plan phase place)) else (torn_rings g handle (place_of_list guests handle))) mine ∙ ap (λ x. Ok (emptied_at g place Send x)) here_is;
+        goes = IsEmptying v guests phase place done o left Receive at closed has meet;
+        says = λ sent e.
+            let later : List Msg = guest_from plan (suc phase) in
+            ap (λ os. empties_left Send os ++ later) end_here ∙ ap (λ os. teardown_buffer o Receive ∷ (empties_left Receive os ++ later)) end_back ∙ ap (λ s. s ++ (empties_left Receive (drop place (closing_of plan phase)) ++ later)) (sym e);
+        heard = ap (λ os. emptied_left Send os ++ host_from plan (suc phase)) end_here ∙ ap (λ os. torndown handle ∷ (emptied_left Receive os ++ host_from plan (suc phase))) end_back;
+      }
+  step_emptied Receive closed has meet =
+      let g : GuestSeen = ending (Unlisted place Receive) in
+      let here_is = closing_here plan phase place done o left at in
+      let handle : ℕ = buffer_list o Receive in
+      let base : ℕ → Channel = guest_before (vps_before plan (suc phase)) plan phase in
+      let so : Opening → Channel = guest_is (vps_before plan (suc phase)) Opened in
+      let mine : empties_list Receive handle (closing_at plan phase place) ≡ true = ap (empties_list Receive handle) here_is ∙ same handle in
+      let other = torn_rings g handle (place_of_list guests handle) in
+      let known : by_relid guests o.relid ≡ Some (so o) = stand_at guests (offered_before plan (suc phase)) as_left done o (marked so (o ∷ left) base) (so o) meet.stand end_fact.fits.named end_fact.known end_fact.done_apart (marked_here so o left base) in
+      let ends = guest_open plan v guests phase place done o left (Unlisted place Receive) Same None false planned at meet.stand known in
+      let turn : GuestTurn = closes_one (idle g) guests place o in
+      let stands : ℕ → Channel = marked as_left done (marked (end_so Closing) (o ∷ []) (marked so left base)) in
+      record {
+        turn = turn;
+        hears = ap (λ b. if b then Ok (emptied_at g place Receive (closing_at plan phase place)) else other) mine ∙ ap (λ x. Ok (emptied_at g place Receive x)) here_is;
+        goes = guest_stands_so plan phase v (Some (PhaseEnd phase)) guests turn (Torn place) stands (close o.relid ∷ teardown o ∷ []) ends
+            (IsClosing v (changed (changed guests turn.heard) turn.wished) phase place done o left at closed (record { agreed = meet.agreed; stand = ends.guest }));
+        says = λ sent sends.
+            let later : List Msg = guest_from plan (suc phase) in
+            let said = sym (ends.said sent sends) in
+            let waits = sym ends.awaits in
+            ap (λ os. empties_left Receive os ++ later) end_here ∙ ap (λ os. close o.relid ∷ teardown o ∷ (gives_sub os ++ later)) end_back ∙ (λ i. said i ++ (end_to_say (closing_of plan phase) (waits i) ++ later));
+        heard =
+            let later : List Msg = host_from plan (suc phase) in
+            let waits = sym ends.awaits in
+            ap (λ os. emptied_left Receive os ++ later) end_here ∙ ap (λ os. torndown handle ∷ (torn_left os ++ later)) end_back ∙ (λ i. torndown handle ∷ (end_to_hear (closing_of plan phase) (waits i) ++ later));
+      }
+
+  -- GPADL_TORNDOWN: the channel of an opening is closed
+  on_torn : Meet plan v guests (offered_before plan (suc phase)) (marked as_left done (marked (end_so Closing) (o ∷ []) not_yet)) → guest_hears (ending (Torn place)) (torndown o.gpadl) ≡ Ok (torn_then (ending (Torn place)) (closed_turn plan phase v place o) place o.relid o)
+  on_torn meet =
+      let g : GuestSeen = ending (Torn place) in
+      let stands : ℕ → Channel = marked as_left done (marked (end_so Closing) (o ∷ []) not_yet) in
+      let heard : ℕ → GuestTurn = λ relid. heard_with (Torn place) v (Now relid (end_so Closed o)) None in
+      let closing : stands o.relid ≡ end_so Closing o = marked_apart as_left done (marked (end_so Closing) (o ∷ []) not_yet) o.relid end_fact.done_apart ∙ marked_here (end_so Closing) o [] not_yet in
+      let known : slice_get guests (o.relid - 1) ≡ Some (end_so Closing o) = sym (at_relid guests o.relid end_fact.fits.named) ∙ meet.stand.each o.relid end_fact.fits.named end_fact.known ∙ ap (λ c. Some c) closing in
+      let mine : is_handle o.gpadl (stands o.relid).gpadl ≡ true = ap (λ c. is_handle o.gpadl c.gpadl) closing ∙ same o.gpadl in
+      let found : place_of_list guests o.gpadl ≡ Some (o.relid - 1) = find_list guests (offered_before plan (suc phase)) stands o.relid o.gpadl meet.stand end_fact.fits.named end_fact.known mine (closing_handle plan (vps_before plan (suc phase)) phase done o left end_fact) in
+      let again : o.relid - 1 + 1 ≡ o.relid = omega (arith, end_fact.fits.named) in
+      ap (torn_rings g o.gpadl) found ∙ ap (torn_at g o.gpadl (o.relid - 1)) known ∙ ap (λ r. Ok (torn_for g (heard r) place r (closing_at plan phase place))) again
+      ∙ ap (λ x. Ok (torn_for g (heard o.relid) place o.relid x)) (closing_here plan phase place done o left at)
+
+  -- a first channel is done with then
+  step_torn_first : o.rescinded ≡ false → is_sub o ≡ false → Meet plan v guests (offered_before plan (suc phase)) (marked as_left done (marked (end_so Closing) (o ∷ []) not_yet)) → GuestStep plan (ending (Torn place)) (torndown o.gpadl)
+  step_torn_first closed is_first meet =
+      let g : GuestSeen = ending (Torn place) in
+      let m : Msg = torndown o.gpadl in
+      let count : ℕ = offered_before plan (suc phase) in
+      let kept : ends_given_back o ≡ false = ap (λ b. b || is_sub o) closed ∙ is_first in
+      let so : as_left o ≡ end_so Closed o = ap (λ b. end_so (end_state b) o) kept in
+      let turn : GuestTurn = turn_end plan guests phase place (heard_end plan phase (Torn place) v o None) in
+      let heard : Channel → GuestTurn = λ now. heard_with (Torn place) v (Now o.relid now) None in
+      let taken : GuestTurn = record (closed_turn plan phase v place o) { awaits = Rescinded place } in
+      let asked : torn_then g (closed_turn plan phase v place o) place o.relid o ≡ turn_end plan guests phase place (closed_turn plan phase v place o) =
+      ap (λ b. if b && is_sub o then taken else (if b then turn_end plan guests phase place (closed_turn plan phase v place o) else closed_turn plan phase v place o)) (same o.relid)
+      ∙ ap (λ b. if b then taken else turn_end plan guests phase place (closed_turn plan phase v place o)) is_first in
+      let after : Stand (slice_set guests (o.relid - 1) (as_left o)) count (marked as_left (done ++ o ∷ []) not_yet) =
+      stand_join guests count as_left done o (marked (end_so Closing) (o ∷ []) not_yet) not_yet meet.stand end_fact.fits.named end_fact.known end_fact.done_apart (λ q off. sym (marked_there (end_so Closing) o [] not_yet q off)) in
+      let next = next_is plan guests phase place as_left (end_so Closing) (end_so Opened) done o left (guest_before (vps_before plan (suc phase)) plan phase) planned at meet.stand in
+      let on = goes_so plan v guests phase place done o left (Torn place) None planned at after next in
+      record {
+        turn = turn;
+        hears = on_torn meet ∙ ap (λ t. Ok t) asked ∙ ap (λ c. Ok (turn_end plan guests phase place (heard c))) (sym so);
+        goes = guest_stands_so plan phase v (Some (PhaseEnd phase)) guests turn (guest_next_awaits (place + 1) left) (marked as_left (done ++ o ∷ []) (guest_next_stands (vps_before plan (suc phase)) left (guest_before (vps_before plan (suc phase)) plan phase))) (option_to_list None ++ guest_next_sends left) on.ends
+            (guest_next plan v (changed (changed guests turn.heard) turn.wished) phase (place + 1) (done ++ o ∷ []) left planned at.in_plan (ends_more plan phase place done o left at) (ends_place plan phase place done o left at) (record { agreed = meet.agreed; stand = on.ends.guest }));
+        says = λ sent sends.
+            ap (λ os. gives_sub os ++ guest_from plan (suc phase)) end_here ∙ ap (λ b. ((if b then release o.relid ∷ [] else []) ++ flat_map guest_closes left) ++ guest_from plan (suc phase)) is_first ∙ on.says sent sends;
+        heard =
+            ap (λ os. torn_left os ++ host_from plan (suc phase)) end_here
+            ∙ ap (λ b. m ∷ (((if b then rescind o.relid ∷ [] else []) ++ flat_map host_closes left) ++ host_from plan (suc phase))) is_first ∙ ap (λ xs. m ∷ (xs ++ host_from plan (suc phase))) on.heard;
+      }
+
+  -- a sub-channel is to be rescinded then
+  step_torn_sub : o.rescinded ≡ false → is_sub o ≡ true → Meet plan v guests (offered_before plan (suc phase)) (marked as_left done (marked (end_so Closing) (o ∷ []) not_yet)) → GuestStep plan (ending (Torn place)) (torndown o.gpadl)
+  step_torn_sub closed sub meet =
+      let m : Msg = torndown o.gpadl in
+      let count : ℕ = offered_before plan (suc phase) in
+      let turn : GuestTurn = record (closed_turn plan phase v place o) { awaits = Rescinded place } in
+      let asked : torn_then (ending (Torn place)) (closed_turn plan phase v place o) place o.relid o ≡ turn =
+      ap (λ b. if b && is_sub o then turn else (if b then turn_end plan guests phase place (closed_turn plan phase v place o) else closed_turn plan phase v place o)) (same o.relid)
+      ∙ ap (λ b. if b then turn else turn_end plan guests phase place (closed_turn plan phase v place o)) sub in
+      let after : Stand (slice_set guests (o.relid - 1) (end_so Closed o)) count (marked as_left done (marked (end_so Closed) (o ∷ []) not_yet)) =
+      stand_mark guests count as_left (end_so Closed) done o (marked (end_so Closing) (o ∷ []) not_yet) not_yet meet.stand end_fact.fits.named end_fact.known end_fact.done_apart (λ q off. sym (marked_there (end_so Closing) o [] not_yet q off)) in
+      record {
+        turn = turn;
+        hears = on_torn meet ∙ ap (λ t. Ok t) asked;
+        goes = gives_sub_back v (slice_set guests (o.relid - 1) (end_so Closed o)) phase place done o left at closed sub (record { agreed = meet.agreed; stand = after });
+        says = λ sent e.
+            let later : List Msg = guest_from plan (suc phase) in
+            ap (λ os. gives_sub os ++ later) end_here ∙ ap (λ b. ((if b then release o.relid ∷ [] else []) ++ flat_map guest_closes left) ++ later) sub ∙ ap (λ os. gives_one os ++ later) end_back
+            ∙ ap (λ s. s ++ (gives_one (drop place (closing_of plan phase)) ++ later)) (sym e);
+        heard =
+            ap (λ os. torn_left os ++ host_from plan (suc phase)) end_here
+            ∙ ap (λ b. m ∷ (((if b then rescind o.relid ∷ [] else []) ++ flat_map host_closes left) ++ host_from plan (suc phase))) sub ∙ ap (λ os. m ∷ (takes_one os ++ host_from plan (suc phase))) end_back;
+      }
+
+  pub step_torn : o.rescinded ≡ false → Meet plan v guests (offered_before plan (suc phase)) (marked as_left done (marked (end_so Closing) (o ∷ []) not_yet)) → GuestStep plan (ending (Torn place)) (torndown o.gpadl)
+  step_torn closed meet =
+      by_test {P = GuestStep plan (ending (Torn place)) (torndown o.gpadl)} (is_sub o)
+      (λ e. step_torn_sub closed e meet)
+      (λ e. step_torn_first closed e meet)
+
+  -- RESCIND_CHANNELOFFER: the channel is open, or it is a sub-channel that was closed
+  step_rescinds : (state : State) → ends_given_back o ≡ true → on_rescind (ending (Rescinded place)) o.relid (Some (end_so state o)) ≡ Ok (ended_for (ending (Rescinded place)) (rescinded_so v place o (end_so Released o)) place o.relid (closing_at plan phase place))
+      → Meet plan v guests (offered_before plan (suc phase)) (marked as_left done (marked (end_so state) (o ∷ []) not_yet)) → GuestStep plan (ending (Rescinded place)) (rescind o.relid)
+  step_rescinds state gone takes meet =
+      let g : GuestSeen = ending (Rescinded place) in
+      let first : Option Msg = Some (release o.relid) in
+      let count : ℕ = offered_before plan (suc phase) in
+      let turn : GuestTurn = turn_end plan guests phase place (heard_end plan phase (Rescinded place) v o first) in
+      let known : by_relid guests o.relid ≡ Some (end_so state o) = stand_at guests count as_left done o (marked (end_so state) (o ∷ []) not_yet) (end_so state o) meet.stand end_fact.fits.named end_fact.known end_fact.done_apart (marked_here (end_so state) o [] not_yet) in
+      let asked : ended_for g (rescinded_so v place o (as_left o)) place o.relid (Some o) ≡ turn = ap (λ b. if b then turn else rescinded_so v place o (as_left o)) (same o.relid) in
+      let after : Stand (slice_set guests (o.relid - 1) (as_left o)) count (marked as_left (done ++ o ∷ []) not_yet) =
+      stand_join guests count as_left done o (marked (end_so state) (o ∷ []) not_yet) not_yet meet.stand end_fact.fits.named end_fact.known end_fact.done_apart (λ q off. sym (marked_there (end_so state) o [] not_yet q off)) in
+      let next = next_is plan guests phase place as_left (end_so state) (end_so Opened) done o left (guest_before (vps_before plan (suc phase)) plan phase) planned at meet.stand in
+      let on = goes_so plan v guests phase place done o left (Rescinded place) first planned at after next in
+      record {
+        turn = turn;
+        hears = ap (on_rescind g o.relid) known ∙ takes
+            ∙ ap (λ c. Ok (ended_for g (rescinded_so v place o c) place o.relid (closing_at plan phase place))) (sym (ap (λ b. end_so (end_state b) o) gone))
+            ∙ ap (λ x. Ok (ended_for g (rescinded_so v place o (as_left o)) place o.relid x)) (closing_here plan phase place done o left at) ∙ ap (λ t. Ok t) asked;
+        goes = guest_stands_so plan phase v (Some (PhaseEnd phase)) guests turn (guest_next_awaits (place + 1) left) (marked as_left (done ++ o ∷ []) (guest_next_stands (vps_before plan (suc phase)) left (guest_before (vps_before plan (suc phase)) plan phase))) (option_to_list first ++ guest_next_sends left) on.ends
+            (guest_next plan v (changed (changed guests turn.heard) turn.wished) phase (place + 1) (done ++ o ∷ []) left planned at.in_plan (ends_more plan phase place done o left at) (ends_place plan phase place done o left at) (record { agreed = meet.agreed; stand = on.ends.guest }));
+        says = λ sent sends. ap (λ os. gives_one os ++ guest_from plan (suc phase)) end_here ∙ on.says sent sends;
+        heard = ap (λ os. takes_one os ++ host_from plan (suc phase)) end_here ∙ ap (λ xs. (rescind o.relid) ∷ (xs ++ host_from plan (suc phase))) on.heard;
+      }
+
+  pub step_gives : o.rescinded ≡ true → Meet plan v guests (offered_before plan (suc phase)) (marked as_left done (marked (end_so Opened) (o ∷ left) (guest_before (vps_before plan (suc phase)) plan phase))) → GuestStep plan (ending (Rescinded place)) (rescind o.relid)
+  step_gives gone meet =
+      step_rescinds Opened (ap (λ b. b || is_sub o) gone) refl (record { agreed = meet.agreed; stand = meet.stand })
+
+  pub step_gives_sub : o.rescinded ≡ false → is_sub o ≡ true → Meet plan v guests (offered_before plan (suc phase)) (marked as_left done (marked (end_so Closed) (o ∷ []) not_yet)) → GuestStep plan (ending (Rescinded place)) (rescind o.relid)
+  step_gives_sub closed sub meet =
+      step_rescinds Closed (ap (λ b. b || is_sub o) closed ∙ sub) refl meet
 
 -- UNLOAD_RESPONSE
 step_left : (plan : BusPlan) (logs : Logs) (v : Version) (guests : List Channel) → Meet plan v guests (offered_before plan (length plan.phases)) (guest_before (vps_before plan (length plan.phases)) plan (length plan.phases)) → GuestStep plan (a_guest plan logs (Some Unload) Unloaded (Some v) guests) farewell_taken
 step_left plan logs v guests meet =
-    let g : GuestSeen = a_guest plan logs (Some Unload) Unloaded (Some v) guests in
     record {
-      turn = record (idle g) { awaits = Nothing };
+      turn = record (idle (a_guest plan logs (Some Unload) Unloaded (Some v) guests)) { awaits = Nothing };
       hears = refl;
       goes = is_over v guests meet;
       says = λ sent e. ap (λ s. s ++ []) (sym e);
@@ -927,8 +809,7 @@ step_response plan logs v planned tries = by_test {P = GuestGoes plan (a_guest p
 port_at : (kinds : List Kind) (n : ℕ) (kind : Kind) (left : List Kind) → All HasPort kinds → drop n kinds ≡ kind ∷ left → HasPort kind
 port_at kinds n kind left all is =
     let here = left_of kinds n kind left is in
-    let few = here.2 in
-    subst HasPort (some_get kinds n kind here.0) (All-get_or HasPort kinds n kind (omega (arith, few)) all)
+    subst HasPort (some_get kinds n kind here.0) (All-get_or HasPort kinds n kind (omega (arith, here.2)) all)
 
 step_offers : (plan : BusPlan) (logs : Logs) (v : Version) (n : ℕ) (left : List Kind) → IsPlan plan → Agreed plan v → n ≤ length plan.kinds → drop n plan.kinds ≡ left → GuestGoes plan (a_guest plan logs (Some Contact) Offers (Some v) (replicate n offered_channel))
 step_offers plan logs v n [] planned agreed few is = record { next = delivered; step = step_offered plan logs v n agreed few is }
@@ -938,26 +819,22 @@ step_service : (plan : BusPlan) (logs : Logs) (v : Version) (guests : List Chann
     → Meet plan v guests (offered_by plan phase done (o ∷ left)) (marked (guest_is (vps_before plan phase) Opened) done (guest_before (vps_before plan phase) plan phase))
     → GuestGoes plan (a_guest plan logs (Some (PhaseStart phase)) (ServiceOffer place) (Some v) guests)
 step_service plan logs v guests phase place done o left None planned at is asked meet = absurd (let wrong : true ≡ false = sym asked ∙ ap is_some is in cc)
-step_service plan logs v guests phase place done o left (Some port) planned at is asked meet = record { next = offer_service port o.relid; step = step_dialed plan logs v guests phase place done o left port planned at is meet }
+step_service plan logs v guests phase place done o left (Some port) planned at is asked meet = record { next = offer_service port o.relid; step = step_dialed plan logs v guests phase place done o left planned at port is meet }
 
 -- each row in which a guest waits for a message
 pub guest_step : (plan : BusPlan) (logs : Logs) (part : Option Part) (awaits : GuestWait) (version : Option Version) (channels : List Channel) → IsPlan plan → GuestStands plan part awaits version channels → waits_for_nothing awaits ≡ false
     → GuestGoes plan (a_guest plan logs part awaits version channels)
-guest_step plan logs part awaits version channels planned fresh waits = absurd (cc)
 guest_step plan logs part awaits version channels planned (IsProposing v tries) waits = step_response plan logs v planned tries
 guest_step plan logs part awaits version channels planned (asks v n agreed few) waits = step_offers plan logs v n (drop n plan.kinds) planned agreed few refl
-guest_step plan logs part awaits version channels planned (contacted v cs meet) waits = absurd (cc)
 guest_step plan logs part awaits version channels planned (IsOffering v cs phase place done first offered o left at is_first subs meet) waits = record { next = offer_sub o; step = step_sub_offered plan logs v cs phase place done first offered o left planned at is_first subs meet }
 guest_step plan logs part awaits version channels planned (dials v cs phase place done o left at asked meet) waits = step_service plan logs v cs phase place done o left o.dialed planned at refl asked meet
 guest_step plan logs part awaits version channels planned (lists v cs phase place done o left at meet) waits = record { next = created o.relid o.gpadl; step = step_listed plan logs v cs phase place done o left planned at meet }
 guest_step plan logs part awaits version channels planned (IsOpened v cs phase place done o left at meet) waits = record { next = opened o.relid o.relid; step = step_open plan logs v cs phase place done o left planned at meet }
-guest_step plan logs part awaits version channels planned (IsFilling v cs phase place done o left k at has meet) waits = record { next = host_buffer o k; step = step_filled plan logs v cs phase place done o left k planned at has meet }
+guest_step plan logs part awaits version channels planned (IsFilling v cs phase place done o left k at has meet) waits = record { next = host_buffer o k; step = step_filled plan logs v cs phase place done o left planned at k has meet }
 guest_step plan logs part awaits version channels planned (moves v cs phase place done o left in_plan is at answers meet) waits = record { next = modified o.relid; step = step_modified plan logs v cs phase place done o left planned in_plan is at answers meet }
-guest_step plan logs part awaits version channels planned (started v cs phase in_plan meet) waits = absurd (cc)
-guest_step plan logs part awaits version channels planned (IsEmptying v cs phase place done o left k at closed has meet) waits = record { next = torndown (buffer_list o k); step = step_emptied plan logs v cs phase place done o left k planned at closed has meet }
+guest_step plan logs part awaits version channels planned (IsEmptying v cs phase place done o left k at closed has meet) waits = record { next = torndown (buffer_list o k); step = step_emptied plan logs v cs phase place done o left planned at k closed has meet }
 guest_step plan logs part awaits version channels planned (IsClosing v cs phase place done o left at closed meet) waits = record { next = torndown o.gpadl; step = step_torn plan logs v cs phase place done o left planned at closed meet }
 guest_step plan logs part awaits version channels planned (gives_back v cs phase place done o left at gone meet) waits = record { next = rescind o.relid; step = step_gives plan logs v cs phase place done o left planned at gone meet }
 guest_step plan logs part awaits version channels planned (gives_sub_back v cs phase place done o left at closed sub meet) waits = record { next = rescind o.relid; step = step_gives_sub plan logs v cs phase place done o left planned at closed sub meet }
-guest_step plan logs part awaits version channels planned (ended v cs phase in_plan meet) waits = absurd (cc)
 guest_step plan logs part awaits version channels planned (leaves v cs meet) waits = record { next = farewell_taken; step = step_left plan logs v cs meet }
-guest_step plan logs part awaits version channels planned (is_over v cs meet) waits = absurd (cc)
+guest_step plan logs part awaits version channels planned _ waits = absurd (cc)

@@ -1,16 +1,11 @@
 -- Which of the guest's channels set up a page list, and what each channel before a phase can do.
-use Rattle.std.proofs.Common.{◌≡◌, ◌≢◌, ◌∙◌, ℕ, zero, suc, ◌+◌, ◌-◌, ◌<◌, ◌≤◌, ◌==◌, Bool, true, false, List, [], ◌∷◌, ◌++◌, length, get_or, slice_get, Some, None, cond, nat_lt, Ok, refl, sym, ap, subst, arith}
+use Rattle.std.proofs.Common.{◌≡◌, ◌≢◌, ◌∙◌, ℕ, zero, suc, ◌+◌, ◌-◌, ◌<◌, ◌≤◌, ◌==◌, Bool, true, false, List, [], ◌∷◌, length, get_or, slice_get, Some, None, cond, nat_lt, Ok, refl, sym, ap, subst, arith}
 use Rattle.std.specs.List.{AllByRecursion, position_or_len}
 use Rattle.std.proofs.lemmas.Bool.Decides.{nat_tests}
 use Rattle.std.proofs.lemmas.List.Sums.{position_or_len_is}
 use Rattle.std.proofs.lemmas.Option.{get_or_from_slice_get}
-use Rattle.io_edge.specs.declared.side.Side.TheVariants.{Guest as GuestSide, Host as HostSide}
-use Rattle.chan_state.specs.declared.state.State.TheVariants.{Opening as IsOpening, Opened, Closing}
-use Rattle.chan_state.specs.declared.event.Event.TheVariants.{WantOpen, OpenSeen}
-use Rattle.chan_state.specs.declared.action.Action.TheVariants.{SendResult}
-use Rattle.chan_state.specs.declared.chan_state.ChanState.{ChanState}
-use Rattle.control_model.specs.declared.opening.Opening.{Opening}
-use Rattle.control_model.specs.declared.channel.Channel.{Channel}
+use Rattle.control_laws.proofs.Words.{GuestSide, HostSide, Opened, Closing, WantOpen, OpenSeen, SendResult, ChanState, Opening, Channel}
+use Rattle.chan_state.specs.declared.state.State.TheVariants.{Opening as IsOpening}
 use Rattle.control_model.specs.Plan.{BusPlan, phase_of}
 use Rattle.control_model.specs.Channels.{lived, row_of, is_handle, place_of_list}
 use Rattle.control_model.specs.Said.{ends_given_back}
@@ -20,10 +15,6 @@ use Rattle.control_model.specs.Stand.{marked, before_phase, end_state, guest_is,
 use Rattle.control_laws.proofs.Marks.{differ, at_relid, marked_has, marked_at, marked_there}
 use Rattle.control_laws.proofs.Plans.{Facts}
 use Rattle.control_laws.proofs.Cutting.{all_weaker}
-
-pub all_front : {X : Type 0} (P : X → Type 0) (xs ys : List X) → AllByRecursion P (xs ++ ys) → AllByRecursion P xs × AllByRecursion P ys
-all_front P [] ys all = (tt, all)
-all_front P (x ∷ xs) ys all = let rest = all_front P xs ys all.1 in ((all.0, rest.0), rest.1)
 
 -- what holds of an offered channel, and of those of its openings, holds before a phase
 before_has : {X : Type 0} (plan : BusPlan) (ended : Opening → X) (offered : X) (P : X → Type 0) (relid : ℕ) → P offered → (phase : ℕ) → ((j : ℕ) → j < phase → AllByRecursion (λ q. q.relid ≡ relid → P (ended q)) (phase_of plan j))
@@ -67,8 +58,7 @@ find_list guests count stands relid gpadl stand one few here there =
     let test : Channel → Bool = λ channel. is_handle gpadl channel.gpadl in
     let read : (k : ℕ) (d : Channel) → k < length guests → get_or guests k d ≡ stands (k + 1) = λ k d less.
     let step : (k + 1) - 1 ≡ k = omega arith in
-    let found : slice_get guests k ≡ Some (stands (k + 1)) = ap (slice_get guests) (sym step) ∙ sym (at_relid guests (k + 1) (omega arith)) ∙ stand.each (k + 1) (omega arith) (omega (arith, less, many)) in
-    get_or_from_slice_get guests k (stands (k + 1)) d found in
+    get_or_from_slice_get guests k (stands (k + 1)) d (ap (slice_get guests) (sym step) ∙ sym (at_relid guests (k + 1) (omega arith)) ∙ stand.each (k + 1) (omega arith) (omega (arith, less, many))) in
     let back : (relid - 1) + 1 ≡ relid = omega (arith, one) in
     let first : position_or_len test guests ≡ relid - 1 = position_or_len_is test guests (relid - 1) offered_channel (omega (arith, many, few))
     (λ k less. ap test (read k offered_channel (omega (arith, less, many, few))) ∙ there (k + 1) (λ e. absurd (omega (arith, e, less))))

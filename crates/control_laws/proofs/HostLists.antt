@@ -1,34 +1,19 @@
 -- A host takes a piece of a page list, and each row in which it takes a message.
-use Rattle.std.proofs.Common.{◌≡◌, ◌∙◌, ℕ, suc, ◌+◌, ◌&&◌, ◌||◌, ◌==◌, true, false, List, [], ◌∷◌, ◌++◌, length, map, drop, Option, Some, None, is_some, Ok, if◌then◌else◌, refl, sym, ap, subst, append_assoc, arith}
-use Rattle.std.specs.List.{flat_map}
+use Rattle.std.proofs.Common.{◌≡◌, ◌∙◌, ℕ, ◌+◌, ◌&&◌, ◌||◌, ◌==◌, true, false, List, [], ◌∷◌, ◌++◌, length, map, drop, Option, Some, None, is_some, Ok, if◌then◌else◌, refl, sym, ap, subst, append_assoc, arith}
 use Rattle.std.proofs.lemmas.List.FromFn.{length-range_with_len}
 use Rattle.std.proofs.lemmas.List.Folds.{list_any-append}
 use Rattle.std.proofs.lemmas.Grind.{flat_map-append}
-use Rattle.contact.specs.declared.version.Version.{Version}
-use Rattle.contact.specs.declared.part.Part.{Part}
-use Rattle.contact.specs.declared.part.Part.TheVariants.{PhaseStart}
-use Rattle.chan_state.specs.declared.state.State.TheVariants.{Opened}
-use Rattle.chan_state.specs.declared.chan_state.ChanState.{ChanState}
-use Rattle.gpadl.specs.Assembly.{Partial, Assembly, is_live, built, fault_of}
+use Rattle.control_laws.proofs.Words.{Version, Part, PhaseStart, Opened, ChanState, Partial, Assembly, is_live, built, fault_of, next, whole, after, Msg, GpadlHeader, GpadlBody, Opening, Buffer, Receive, Send, One, HostWait, AwaitsConnect, AwaitsList, AwaitsOpen, AwaitsFill}
 use Rattle.gpadl.specs.Cut.{cut}
-use Rattle.gpadl.specs.Whole.{next, whole, after}
-use Rattle.vmbus_msg.specs.declared.msg.Msg.{Msg}
-use Rattle.vmbus_msg.specs.declared.msg.Msg.TheVariants.{GpadlHeader, GpadlBody}
-use Rattle.control_model.specs.declared.opening.Opening.{Opening}
-use Rattle.control_model.specs.declared.buffer.Buffer.{Buffer}
-use Rattle.control_model.specs.declared.buffer.Buffer.TheVariants.{Receive, Send}
-use Rattle.control_model.specs.declared.burst.Burst.TheVariants.{One}
-use Rattle.control_model.specs.declared.host_wait.HostWait.{HostWait}
-use Rattle.control_model.specs.declared.host_wait.HostWait.TheVariants.{Connect as AwaitsConnect, List as AwaitsList, Open as AwaitsOpen, Fill as AwaitsFill}
-use Rattle.control_model.specs.Plan.{BusPlan, buffer_list, buffer_begins, buffer_size, list_pages, opening_at, IsPlan, phase_of, closing_of, vp_for}
+use Rattle.control_model.specs.Plan.{BusPlan, buffer_list, buffer_begins, buffer_size, list_pages, opening_at, IsPlan, phase_of, vp_for}
 use Rattle.control_model.specs.Channels.{by_relid}
 use Rattle.control_model.specs.Messages.{propose, request, connect, pages_from, buffer_pages, created, open_on, offer_sub, modify, close, teardown, teardown_buffer, release, farewell}
-use Rattle.control_model.specs.Said.{host_buffer, host_opens_all, guest_moves, host_moves, host_closes, guest_closes}
+use Rattle.control_model.specs.Said.{host_buffer, host_opens_all, guest_moves, host_moves}
 use Rattle.control_model.specs.Host.{HostSeen, HostTurn, host_waits_for_nothing, at_rest, on_header, on_piece, listed as listed_for, is_list_of, filled_then, waits_list, lists_by, is_of, host_hears}
 use Rattle.control_model.specs.Stand.{At, offered_by, offered_for, marked, host_is, host_before, Meet, handles_of, handles, has_list, vps_before}
-use Rattle.control_model.specs.GuestAt.{guest_from, host_from, opens_listed, answers_list, answers_open, fills_listed, answers_fill}
+use Rattle.control_model.specs.GuestAt.{opens_listed, answers_list, answers_open, fills_listed, answers_fill}
 use Rattle.control_model.specs.HostAt.{host_start_to_say, host_moves_to_say, live_ones, lists_before, ListComes, HostStands}
-use Rattle.control_model.specs.HostAt.HostStands.{fresh, answers, accepts, contacted, connects, lists, listed, fills, moves, started, empties, closes, tears, takes_back, ended, leaves, is_over}
+use Rattle.control_model.specs.HostAt.HostStands.{answers, accepts, connects, lists, listed, fills, moves, empties, closes, tears, takes_back, leaves}
 use Rattle.control_laws.proofs.Marks.{by_test, same, differ, marked_append, marked_apart, marked_here, stand_at}
 use Rattle.control_laws.proofs.Plans.{Apart, facts, opening_here, offered_here, done_more, place_more, none_behind}
 use Rattle.control_laws.proofs.Cutting.{all_weaker}
@@ -38,7 +23,7 @@ use Rattle.control_laws.proofs.Next.{pieces_of, HasFirst, cut_first}
 use Rattle.control_laws.proofs.Moving.{next_wait}
 use Rattle.control_laws.proofs.Logs.{Logs, a_host}
 use Rattle.control_laws.proofs.Pieces.{IsPieceFor, list_of, Piecewise, piece_built, is_last, comes, after_more}
-use Rattle.control_laws.proofs.Saying.{left_at}
+use Rattle.control_laws.proofs.Saying.{guest_onward, host_onward, guest_then, host_then, left_at}
 use Rattle.control_laws.proofs.HostSteps.{HostStep, step_proposes, step_asks, step_connects, step_opens, step_moves, step_empties, step_closes, step_tears, step_releases, step_leaves}
 
 -- what comes of a piece
@@ -75,10 +60,9 @@ module _ (plan : BusPlan) (logs : Logs) (v : Version) (hosts : List ChanState) (
         pieces_then = [];
         goes = listed v hosts phase place done o left at meet;
         says = λ sent f.
-            let later : List Msg = host_moves plan (phase_of plan phase) ++ (flat_map host_closes (closing_of plan phase) ++ host_from plan (suc phase)) in
-            ap (λ os. answers_list os ++ later) here ∙ ap (λ os. created o.relid o.gpadl ∷ (answers_open os ++ later)) (sym here)
-            ∙ ap (λ xs. xs ++ (answers_open (drop place (phase_of plan phase)) ++ later)) (sym f);
-        heard = ap (λ xs. m ∷ ((xs ++ opens_listed (drop place (phase_of plan phase))) ++ (guest_moves plan (phase_of plan phase) ++ (flat_map guest_closes (closing_of plan phase) ++ guest_from plan (suc phase))))) last.empty;
+            ap (λ os. answers_list os ++ host_then plan phase) here ∙ ap (λ os. created o.relid o.gpadl ∷ (answers_open os ++ host_then plan phase)) (sym here)
+            ∙ ap (λ xs. xs ++ (answers_open (drop place (phase_of plan phase)) ++ host_then plan phase)) (sym f);
+        heard = ap (λ xs. m ∷ ((xs ++ opens_listed (drop place (phase_of plan phase))) ++ (guest_then plan phase))) last.empty;
       }
 
   -- frames are missing
@@ -100,7 +84,7 @@ module _ (plan : BusPlan) (logs : Logs) (v : Version) (hosts : List ChanState) (
           whole = whole_is ∙ sym (append_assoc came (m ∷ []) (n ∷ ms));
           lists_are = ap (λ (t : Assembly). next t m) so_far ∙ sym (after_more (live_ones (handles done)) came m);
         });
-        says = λ sent f. ap (λ xs. xs ++ (answers_list (drop place (phase_of plan phase)) ++ (host_moves plan (phase_of plan phase) ++ (flat_map host_closes (closing_of plan phase) ++ host_from plan (suc phase))))) (sym f);
+        says = λ sent f. ap (λ xs. xs ++ (answers_list (drop place (phase_of plan phase)) ++ (host_then plan phase))) (sym f);
         heard = refl;
       }
 
@@ -153,7 +137,7 @@ module _ (plan : BusPlan) (logs : Logs) (v : Version) (hosts : List ChanState) (
           whole = whole_is ∙ sym (append_assoc came (m ∷ []) (n ∷ ms));
           lists_are = ap (λ (t : Assembly). next t m) so_far ∙ sym (after_more (live_ones (handles done ++ lists_before o k)) came m);
         });
-        says = λ sent f. ap (λ xs. xs ++ (answers_fill k (drop place (phase_of plan phase)) ++ (host_moves plan (phase_of plan phase) ++ (flat_map host_closes (closing_of plan phase) ++ host_from plan (suc phase))))) (sym f);
+        says = λ sent f. ap (λ xs. xs ++ (answers_fill k (drop place (phase_of plan phase)) ++ (host_then plan phase))) (sym f);
         heard = refl;
       }
 
@@ -182,9 +166,8 @@ filled_receive : (plan : BusPlan) (logs : Logs) (v : Version) (hosts : List Chan
 filled_receive plan logs v hosts phase place done o left s m ms at has meet filled =
     let h : HostSeen = fills_at plan logs v hosts phase place done o left Receive s in
     let os : List Opening = phase_of plan phase in
-    let count = length-range_with_len (buffer_begins o Send) buffer_size in
     let list : List Msg = cut o.relid (buffer_list o Send) (buffer_pages o Send) in
-    let whole : HasFirst list = cut_first o.relid (buffer_list o Send) (buffer_pages o Send) (omega (arith, count)) in
+    let whole : HasFirst list = cut_first o.relid (buffer_list o Send) (buffer_pages o Send) (omega (arith, length-range_with_len (buffer_begins o Send) buffer_size)) in
     let live : (handles done ++ lists_before o Receive) ++ buffer_list o Receive ∷ [] ≡ handles done ++ lists_before o Send = append_assoc (handles done) (lists_before o Receive) (buffer_list o Receive ∷ []) in
     let here = left_at plan phase place done (o ∷ left) at.phase_is at.place_is in
     let back = sym here in
@@ -196,10 +179,10 @@ filled_receive plan logs v hosts phase place done o left s m ms at has meet fill
       goes = subst (HostStands plan (Some (PhaseStart phase)) (AwaitsFill place Send) (Some v) hosts (live_ones (handles done ++ lists_before o Send)) []) (sym whole.is)
           (fills v hosts phase place done o left Send (live_ones (handles done ++ lists_before o Send)) whole.first whole.rest at has meet (record { came = []; whole = whole.is; lists_are = refl }));
       says = λ sent f.
-          let later : List Msg = host_moves plan os ++ (flat_map host_closes (closing_of plan phase) ++ host_from plan (suc phase)) in
+          let later : List Msg = host_then plan phase in
           ap (λ xs. answers_fill Receive xs ++ later) here ∙ ap (λ xs. host_buffer o Receive ∷ (answers_fill Send xs ++ later)) back ∙ ap (λ xs. xs ++ (answers_fill Send (drop place os) ++ later)) (sym f);
       heard =
-          let later : List Msg = guest_moves plan os ++ (flat_map guest_closes (closing_of plan phase) ++ guest_from plan (suc phase)) in
+          let later : List Msg = guest_then plan phase in
           ap (λ xs. m ∷ ((xs ++ fills_listed Receive (drop place os)) ++ later)) filled.empty ∙ ap (λ xs. m ∷ (fills_listed Receive xs ++ later)) here ∙ ap (λ xs. m ∷ ((list ++ fills_listed Send xs) ++ later)) back;
     }
 
@@ -210,15 +193,13 @@ filled_send plan logs v hosts phase place done o left s m ms planned at has meet
     let part : Option Part = Some (PhaseStart phase) in
     let h : HostSeen = fills_at plan logs v hosts phase place done o left Send s in
     let os : List Opening = phase_of plan phase in
-    let fact = facts plan phase place done o left planned at in
     let more : List Opening = done ++ o ∷ [] in
     let own : handles (o ∷ []) ≡ o.gpadl ∷ (o.gpadl + 1) ∷ (o.gpadl + 2) ∷ [] = ap (λ b. (o.gpadl ∷ (if b then (o.gpadl + 1) ∷ (o.gpadl + 2) ∷ [] else [])) ++ []) has in
     let live : (handles done ++ lists_before o Send) ++ buffer_list o Send ∷ [] ≡ handles more =
     append_assoc (handles done) (lists_before o Send) (buffer_list o Send ∷ []) ∙ ap (λ xs. handles done ++ xs) (sym own) ∙ sym (flat_map-append handles_of done (o ∷ [])) in
     let none = none_behind plan phase place done o left planned at has in
-    let none_count = ap length none in
-    let counts = count_next plan phase done o left fact.fits.alone in
-    let same_count : offered_for plan phase done o left ≡ offered_by plan phase more left = omega (arith, counts, none_count) in
+    let counts = count_next plan phase done o left (facts plan phase place done o left planned at).fits.alone in
+    let same_count : offered_for plan phase done o left ≡ offered_by plan phase more left = omega (arith, counts, ap length none) in
     let stood = subst (λ n. Meet plan v hosts n (marked (host_is (vps_before plan phase) Opened) more (host_before (vps_before plan phase) plan phase))) same_count meet in
     let onward = next_wait plan logs part v hosts hosts s phase (place + 1) more left (AwaitsFill place Send) planned at.in_plan (done_more plan phase place done o left at) (place_more plan phase place done o left at) stood in
     let later : HostWait = waits_list h part (place + 1) (opening_at plan phase (place + 1)) in
@@ -230,12 +211,11 @@ filled_send plan logs v hosts phase place done o left s m ms planned at has meet
       pieces_then = pieces_of (opening_at plan phase (place + 1));
       goes = onward.goes;
       says = λ sent f.
-          let rest : List Msg = flat_map host_closes (closing_of plan phase) ++ host_from plan (suc phase) in
           let moves : List Msg = host_moves plan os in
-          ap (λ xs. answers_fill Send xs ++ (moves ++ rest)) here ∙ ap (λ ps. host_buffer o Send ∷ ((map offer_sub ps ++ host_opens_all left) ++ (moves ++ rest))) none
-          ∙ ap (λ xs. host_buffer o Send ∷ xs) (onward.says rest) ∙ ap (λ xs. xs ++ (host_start_to_say os later ++ (host_moves_to_say plan os later ++ rest))) (sym f);
+          ap (λ xs. answers_fill Send xs ++ (moves ++ host_onward plan phase)) here ∙ ap (λ ps. host_buffer o Send ∷ ((map offer_sub ps ++ host_opens_all left) ++ (moves ++ host_onward plan phase))) none
+          ∙ ap (λ xs. host_buffer o Send ∷ xs) (onward.says (host_onward plan phase)) ∙ ap (λ xs. xs ++ (host_start_to_say os later ++ (host_moves_to_say plan os later ++ host_onward plan phase))) (sym f);
       heard =
-          let rest : List Msg = flat_map guest_closes (closing_of plan phase) ++ guest_from plan (suc phase) in
+          let rest : List Msg = guest_onward plan phase in
           let moves : List Msg = guest_moves plan os in
           ap (λ xs. m ∷ ((xs ++ fills_listed Send (drop place os)) ++ (moves ++ rest))) filled.empty ∙ ap (λ xs. m ∷ (fills_listed Send xs ++ (moves ++ rest))) here ∙ ap (λ xs. m ∷ xs) (onward.hears rest);
     }
@@ -243,9 +223,7 @@ filled_send plan logs v hosts phase place done o left s m ms planned at has meet
 free_fill : (o : Opening) (k : Buffer) → is_live (lists_before o k) (buffer_list o k) ≡ false
 free_fill o Receive = let a = differ o.gpadl (o.gpadl + 1) (λ e. absurd (omega (arith, e))) in (λ i. a i || false)
 free_fill o Send =
-    let a = differ o.gpadl (o.gpadl + 2) (λ e. absurd (omega (arith, e))) in
-    let b = differ (o.gpadl + 1) (o.gpadl + 2) (λ e. absurd (omega (arith, e))) in
-    (λ i. a i || (b i || false))
+    (λ i. (differ o.gpadl (o.gpadl + 2) (λ e. absurd (omega (arith, e)))) i || ((differ (o.gpadl + 1) (o.gpadl + 2) (λ e. absurd (omega (arith, e)))) i || false))
 
 filled_by : (plan : BusPlan) (logs : Logs) (v : Version) (hosts : List ChanState) (phase place : ℕ) (done : List Opening) (o : Opening) (left : List Opening) (k : Buffer) (s : Assembly) (m : Msg) (ms : List Msg) → IsPlan plan → At plan phase place done o left → o.buffers ≡ true → FillsSo plan logs v hosts phase place done o left k s
     → Filled plan logs v hosts phase place done o left k s m ms → HostStep plan (fills_at plan logs v hosts phase place done o left k s) [] m (m ∷ ms)
@@ -265,8 +243,7 @@ step_fills plan logs v hosts phase place done o left k s m ms planned at has mee
     let live : List ℕ = handles done ++ lists_before o k in
     let count = length-range_with_len (buffer_begins o k) buffer_size in
     let before = live_is done handle ∙ none_has handle done (all_weaker (λ p. Apart o p) (λ p. has_list p handle ≡ false) (λ p apart. apart handle (has_buffer o k has)) done fact.done_lists) in
-    let own = free_fill o k in
-    let free : is_live live handle ≡ false = list_any-append (λ x. x == handle) (handles done) (lists_before o k) ∙ (λ i. before i || own i) in
+    let free : is_live live handle ≡ false = list_any-append (λ x. x == handle) (handles done) (lists_before o k) ∙ (λ i. before i || (free_fill o k) i) in
     let pieces : Piecewise relid handle pages live s m ms = subst (λ (t : Assembly). Piecewise relid handle pages live t m ms) (sym list.lists_are) (comes relid handle pages live list.came m ms (omega (arith, count)) free list.whole) in
     let fine = pieces.assemble.taken.0 in
     let known : by_relid hosts relid ≡ Some (so o) = meet.stand.each relid fact.fits.named (offered_here plan phase place done o left planned at) ∙ ap (λ c. Some c) (marked_append so done (o ∷ []) base relid ∙ marked_apart so done (marked so (o ∷ []) base) relid fact.done_apart ∙ marked_here so o [] base) in
@@ -290,20 +267,16 @@ step_service plan logs v hosts phase place done o left (Some port) planned at is
 -- each row in which a host waits for a message
 pub host_step : (plan : BusPlan) (logs : Logs) (part : Option Part) (awaits : HostWait) (version : Option Version) (channels : List ChanState) (assembly : Assembly) (tried : List ℕ) (pieces : List Msg) → IsPlan plan → HostStands plan part awaits version channels assembly tried pieces
     → host_waits_for_nothing awaits ≡ false → HostGoes plan (a_host plan logs part awaits version channels assembly) tried pieces
-host_step plan logs part awaits version channels assembly tried pieces planned fresh waits = absurd (cc)
 host_step plan logs part awaits version channels assembly tried pieces planned (answers v tries) waits = record { next = propose v.0; step = step_proposes plan logs v planned tries }
 host_step plan logs part awaits version channels assembly tried pieces planned (accepts v agreed) waits = record { next = request; step = step_asks plan logs v agreed }
-host_step plan logs part awaits version channels assembly tried pieces planned (contacted v cs meet) waits = absurd (cc)
 host_step plan logs part awaits version channels assembly tried pieces planned (connects v cs phase place done o left at asked meet) waits = step_service plan logs v cs phase place done o left o.dialed planned at refl asked meet
 host_step plan logs part awaits version channels assembly tried pieces planned (lists v cs phase place done o left s m ms at meet list) waits = record { next = m; step = step_lists plan logs v cs phase place done o left s m ms planned at meet list }
 host_step plan logs part awaits version channels assembly tried pieces planned (listed v cs phase place done o left at meet) waits = record { next = open_on o; step = step_opens plan logs v cs phase place done o left planned at meet }
 host_step plan logs part awaits version channels assembly tried pieces planned (fills v cs phase place done o left k s m ms at has meet list) waits = record { next = m; step = step_fills plan logs v cs phase place done o left k s m ms planned at has meet list }
 host_step plan logs part awaits version channels assembly tried pieces planned (moves v cs phase place done o left in_plan is at meet) waits = record { next = modify o.relid (vp_for o); step = step_moves plan logs v cs phase place done o left planned in_plan is at meet }
-host_step plan logs part awaits version channels assembly tried pieces planned (started v cs phase in_plan meet) waits = absurd (cc)
-host_step plan logs part awaits version channels assembly tried pieces planned (empties v cs phase place done o left k at closed has meet) waits = record { next = teardown_buffer o k; step = step_empties plan logs v cs phase place done o left k planned at closed has meet }
+host_step plan logs part awaits version channels assembly tried pieces planned (empties v cs phase place done o left k at closed has meet) waits = record { next = teardown_buffer o k; step = step_empties plan logs v cs phase place done o left planned at k closed has meet }
 host_step plan logs part awaits version channels assembly tried pieces planned (closes v cs phase place done o left at closed meet) waits = record { next = close o.relid; step = step_closes plan logs v cs phase place done o left planned at closed meet }
 host_step plan logs part awaits version channels assembly tried pieces planned (tears v cs phase place done o left at closed meet) waits = record { next = teardown o; step = step_tears plan logs v cs phase place done o left planned at closed meet }
 host_step plan logs part awaits version channels assembly tried pieces planned (takes_back v cs phase place done o left at gone meet) waits = record { next = release o.relid; step = step_releases plan logs v cs phase place done o left planned at gone meet }
-host_step plan logs part awaits version channels assembly tried pieces planned (ended v cs phase in_plan meet) waits = absurd (cc)
 host_step plan logs part awaits version channels assembly tried pieces planned (leaves v cs meet) waits = record { next = farewell; step = step_leaves plan logs v cs meet }
-host_step plan logs part awaits version channels assembly tried pieces planned (is_over v cs meet) waits = absurd (cc)
+host_step plan logs part awaits version channels assembly tried pieces planned _ waits = absurd (cc)

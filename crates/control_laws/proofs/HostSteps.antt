@@ -8,29 +8,13 @@ use Rattle.std.proofs.lemmas.List.{append-nil}
 use Rattle.std.proofs.lemmas.List.FromFn.{length-range_with_len}
 use Rattle.std.proofs.lemmas.Slice.Eq.{bytes_eq-Decides}
 use Rattle.std.specs.Str.{bytes_eq}
+use Rattle.control_laws.proofs.Words.{State, Version, Kind, Part, versions_tried, has_modify, answers_modify, Contact, PhaseStart, PhaseEnd, Unload, offers_from, Opened, Closing, Closed, IsRescinded, SendModified, ModifySeen, TeardownSeen, ChanState, Assembly, Msg, Opening, Buffer, Receive, Send, One, Two, Opens, HostWait, AwaitsContact, Request, AwaitsConnect, AwaitsList, AwaitsOpen, AwaitsFill, AwaitsModify, AwaitsEmpty, AwaitsClose, AwaitsTeardown, AwaitsRelease, AwaitsUnload, HostNext}
 use Rattle.contact.specs.Services.{service_id}
 use Rattle.gpadl.specs.Cut.{cut}
-use Rattle.contact.specs.declared.version.Version.{Version}
-use Rattle.contact.specs.declared.kind.Kind.{Kind}
-use Rattle.contact.specs.declared.part.Part.{Part}
-use Rattle.contact.specs.Versions.{versions_tried, has_modify, answers_modify}
-use Rattle.contact.specs.declared.part.Part.TheVariants.{Contact, PhaseStart, PhaseEnd, Unload}
-use Rattle.contact.specs.Classes.{offers_from}
-use Rattle.chan_state.specs.declared.state.State.TheVariants.{Opened, Closing, Closed, Rescinded as IsRescinded, Released}
-use Rattle.chan_state.specs.declared.action.Action.TheVariants.{Nothing, SendModified}
-use Rattle.chan_state.specs.declared.event.Event.TheVariants.{ModifySeen, TeardownSeen}
-use Rattle.chan_state.specs.declared.chan_state.ChanState.{ChanState}
-use Rattle.gpadl.specs.Assembly.{Assembly, is_live}
-use Rattle.vmbus_msg.specs.declared.msg.Msg.{Msg}
-use Rattle.control_model.specs.declared.opening.Opening.{Opening}
-use Rattle.control_model.specs.declared.buffer.Buffer.{Buffer}
-use Rattle.control_model.specs.declared.buffer.Buffer.TheVariants.{Receive, Send}
-use Rattle.control_model.specs.declared.burst.Burst.TheVariants.{Empty, One, Two, Opens}
+use Rattle.chan_state.specs.declared.action.Action.TheVariants.{Nothing}
+use Rattle.control_model.specs.declared.burst.Burst.TheVariants.{Empty}
 use Rattle.control_model.specs.declared.fault.ControlFault.TheVariants.{Gpadl}
 use Rattle.gpadl.specs.declared.fault.GpadlFault.TheVariants.{Handle}
-use Rattle.control_model.specs.declared.host_wait.HostWait.{HostWait}
-use Rattle.control_model.specs.declared.host_wait.HostWait.TheVariants.{Contact as AwaitsContact, Request, Connect as AwaitsConnect, List as AwaitsList, Open as AwaitsOpen, Fill as AwaitsFill, Modify as AwaitsModify, Empty as AwaitsEmpty, Close as AwaitsClose, Teardown as AwaitsTeardown, Release as AwaitsRelease, Unload as AwaitsUnload}
-use Rattle.control_model.specs.declared.host_next.HostNext.{HostNext}
 use Rattle.control_model.specs.Plan.{BusPlan, buffer_list, buffer_begins, buffer_size, is_sub, subs_next, subs_behind, opening_at, closing_at, IsPlan, phase_of, closing_of, movers_in, vp_for, list_pages}
 use Rattle.control_model.specs.Channels.{by_relid, row_of, stands, goes_by}
 use Rattle.control_model.specs.Messages.{propose, respond, request, delivered, connect, pages_from, buffer_pages, open_on, opened, modify, modified, offer_sub, close, teardown, teardown_buffer, torndown, rescind, release, farewell, Sends}
@@ -47,12 +31,12 @@ use Rattle.control_laws.proofs.Vps.{marked_alike, before_alike, host_alike, vp_k
 use Rattle.control_laws.proofs.Next.{pieces_of, HasFirst, cut_first}
 use Rattle.control_laws.proofs.Moving.{Known, phase_known, next_wait, host_moving, moves_left}
 use Rattle.control_laws.proofs.Tried.{one_tried, next_tried}
-use Rattle.control_laws.proofs.Saying.{left_at, lists_more, dials_more, answers_more, ends_left, ends_behind, host_ends_said, host_ends_heard}
+use Rattle.control_laws.proofs.Saying.{guest_onward, host_onward, guest_then, host_then, left_at, lists_more, dials_more, answers_more, ends_left, ends_behind, host_ends_said, host_ends_heard}
 use Rattle.control_laws.proofs.Marks.{by_test, same, marked_apart, marked_like, marked_append, marked_here, marked_there, stand_now, stand_mark, stand_join, stand_add, stand_at}
 use Rattle.control_laws.proofs.Closing.{Distinct, distinct_mid}
-use Rattle.control_laws.proofs.Cutting.{all_weaker, mid_all}
+use Rattle.control_laws.proofs.Cutting.{all_weaker, mid_all, all_snoc}
 use Rattle.control_laws.proofs.Counts.{count_next, done_known, unopened}
-use Rattle.control_laws.proofs.Plans.{get_from, phase_has, facts, opening_here, offered_here, done_more, place_more, end_facts, closing_here, ends_more, ends_place, none_behind}
+use Rattle.control_laws.proofs.Plans.{Facts, get_from, phase_has, facts, opening_here, offered_here, done_more, place_more, end_facts, closing_here, ends_more, ends_place, none_behind}
 use Rattle.control_laws.proofs.NextEnd.{next_is, HostEnds, host_goes, host_stands_so, host_next}
 use Rattle.control_laws.proofs.Lower.{lower_one, accepts_it, refuses_it}
 use Rattle.control_laws.proofs.Offering.{all_mapped}
@@ -72,14 +56,12 @@ pub record HostStep (plan : BusPlan) (h : HostSeen) (tried : List ℕ) (m : Msg)
 -- INITIATE_CONTACT
 step_accepts : (plan : BusPlan) (logs : Logs) (v : Version) → Agreed plan v → HostStep plan (a_host plan logs (Some Contact) AwaitsContact None [] (live_ones [])) (versions_tried v.0 plan.host.0) (propose v.0) []
 step_accepts plan logs v agreed =
-    let h : HostSeen = a_host plan logs (Some Contact) AwaitsContact None [] (live_ones []) in
     let within = agreed.within_host in
-    let yes = accepts_it plan v agreed.tried within in
     let one = one_tried plan v agreed in
     let has : nat_le v.0 plan.host.0 ≡ true = grind (arith, nat_tests, within) in
     record {
-      turn = record (at_rest h) { awaits = Request; version = Some v; burst = One (respond 1) };
-      hears = rw yes refl;
+      turn = record (at_rest (a_host plan logs (Some Contact) AwaitsContact None [] (live_ones []))) { awaits = Request; version = Some v; burst = One (respond 1) };
+      hears = rw (accepts_it plan v agreed.tried within) refl;
       tried_then = [];
       pieces_then = [];
       goes = IsAccepting v agreed;
@@ -90,15 +72,13 @@ step_accepts plan logs v agreed =
 
 step_refuses : (plan : BusPlan) (logs : Logs) (v : Version) → IsPlan plan → Tries plan v → plan.host.0 < v.0 → HostStep plan (a_host plan logs (Some Contact) AwaitsContact None [] (live_ones [])) (versions_tried v.0 plan.host.0) (propose v.0) []
 step_refuses plan logs v planned tries above =
-    let h : HostSeen = a_host plan logs (Some Contact) AwaitsContact None [] (live_ones []) in
-    let none = refuses_it plan v above in
     let low = lower_one plan v planned tries above in
     let next = next_tried plan v planned tries above low in
     let lacks : nat_le v.0 plan.host.0 ≡ false = grind (arith, nat_tests, above) in
     let later : List ℕ = versions_tried low.lower.0 plan.host.0 in
     record {
-      turn = record (at_rest h) { burst = One (respond 0) };
-      hears = rw none refl;
+      turn = record (at_rest (a_host plan logs (Some Contact) AwaitsContact None [] (live_ones []))) { burst = One (respond 0) };
+      hears = rw (refuses_it plan v above) refl;
       tried_then = later;
       pieces_then = [];
       goes = answers low.lower low.tries;
@@ -117,15 +97,13 @@ step_proposes plan logs v planned tries =
 -- REQUESTOFFERS
 pub step_asks : (plan : BusPlan) (logs : Logs) (v : Version) → Agreed plan v → HostStep plan (a_host plan logs (Some Contact) Request (Some v) [] (live_ones [])) [] request []
 step_asks plan logs v agreed =
-    let h : HostSeen = a_host plan logs (Some Contact) Request (Some v) [] (live_ones []) in
     let life : ChanState = offered_life in
-    let hosts : List ChanState = map (λ (kind : Kind). life) plan.kinds in
     record {
-      turn = on_request h Request;
+      turn = on_request (a_host plan logs (Some Contact) Request (Some v) [] (live_ones [])) Request;
       hears = refl;
       tried_then = [];
       pieces_then = [];
-      goes = contacted v hosts (record { agreed = agreed; stand = all_mapped plan life });
+      goes = contacted v (map (λ (kind : Kind). life) plan.kinds) (record { agreed = agreed; stand = all_mapped plan life });
       says = λ sent e. ap (λ s. s ++ host_from plan 0) (sym e);
       heard = refl;
     }
@@ -137,23 +115,18 @@ pub step_connects : (plan : BusPlan) (logs : Logs) (v : Version) (hosts : List C
 step_connects plan logs v hosts phase place done o left port planned at is meet =
     let h : HostSeen = a_host plan logs (Some (PhaseStart phase)) (AwaitsConnect place) (Some v) hosts (live_ones (handles done)) in
     let os : List Opening = phase_of plan phase in
-    let m : Msg = connect port in
-    let fact = facts plan phase place done o left planned at in
-    let few = fact.fits.some_pages in
-    let long = length-range_with_len o.first_page (list_pages o.ring_pages) in
+    let few = (facts plan phase place done o left planned at).fits.some_pages in
     let list : List Msg = cut o.relid o.gpadl (pages_from o) in
-    let whole : HasFirst list = cut_first o.relid o.gpadl (pages_from o) (omega (arith, few, long)) in
+    let whole : HasFirst list = cut_first o.relid o.gpadl (pages_from o) (omega (arith, few, length-range_with_len o.first_page (list_pages o.ring_pages))) in
     let turn : HostTurn = offers_service h place port o.relid in
     let service : List ℕ = service_id port in
     let stands : ℕ → ChanState = marked (host_is (vps_before plan phase) Opened) done (host_before (vps_before plan phase) plan phase) in
     let count : ℕ = offered_by plan phase done (o ∷ left) in
     let mine : bytes_eq service service ≡ true = (bytes_eq-Decides service service).1 refl in
-    let one = ap count_dialed is in
-    let more : count + 1 ≡ offered_for plan phase done o left = omega (arith, one) in
-    let in_plan = at.in_plan in
+    let more : count + 1 ≡ offered_for plan phase done o left = omega (arith, ap count_dialed is) in
     let fresh : (q : ℕ) → count < q → q ≤ count + 1 → stands q ≡ offered_life = λ q above few.
     marked_apart (host_is (vps_before plan phase) Opened) done (host_before (vps_before plan phase) plan phase) q (all_weaker (λ p. p.relid ≤ count) (λ p. p.relid ≢ q) (λ p l e. absurd (omega (arith, l, e, above))) done (done_known plan phase place done o left planned at))
-    ∙ unopened plan (host_ends (vps_before plan phase)) offered_life phase q planned (omega (arith, in_plan)) (omega (arith, above)) in
+    ∙ unopened plan (host_ends (vps_before plan phase)) offered_life phase q planned (omega (arith, at.in_plan)) (omega (arith, above)) in
     let after = subst (λ n. Stand (hosts ++ offered_life ∷ []) n stands) more (stand_add hosts count 1 stands offered_life meet.stand fresh) in
     let here = left_at plan phase place done (o ∷ left) at.phase_is at.place_is in
     let back = sym here in
@@ -164,14 +137,11 @@ step_connects plan logs v hosts phase place done o left port planned at is meet 
       pieces_then = list;
       goes = subst (HostStands plan (Some (PhaseStart phase)) (AwaitsList place) (Some v) (hosts ++ offered_life ∷ []) (live_ones (handles done)) []) (sym whole.is)
           (lists v (hosts ++ offered_life ∷ []) phase place done o left (live_ones (handles done)) whole.first whole.rest at (record { agreed = meet.agreed; stand = after }) (record { came = []; whole = whole.is; lists_are = refl }));
-      says = λ sent e.
-          let later : List Msg = host_moves plan os ++ (flat_map host_closes (closing_of plan phase) ++ host_from plan (suc phase)) in
-          let offers : dial_offers o.relid o.dialed ≡ sent = ap (dial_offers o.relid) is ∙ sym e in
-          ap (λ xs. host_opens_all xs ++ later) here ∙ answers_more o left later ∙ (λ i. offers i ++ (answers_list (back i) ++ later));
+      says = λ sent e. ap (λ xs. host_opens_all xs ++ host_then plan phase) here ∙ answers_more o left (host_then plan phase) ∙ (λ i. (ap (dial_offers o.relid) is ∙ sym e) i ++ (answers_list (back i) ++ host_then plan phase));
       heard =
-          let later : List Msg = guest_moves plan os ++ (flat_map guest_closes (closing_of plan phase) ++ guest_from plan (suc phase)) in
+          let later : List Msg = guest_then plan phase in
           ap (λ xs. flat_map guest_opens xs ++ later) here ∙ dials_more o left later ∙ ap (λ d. dials d ++ (lists_dialed (o ∷ left) ++ later)) is
-          ∙ ap (λ xs. m ∷ xs) (lists_more o left later ∙ sym (append_assoc list (opens_listed (o ∷ left)) later) ∙ ap (λ xs. (list ++ opens_listed xs) ++ later) back);
+          ∙ ap (λ xs. (connect port) ∷ xs) (lists_more o left later ∙ sym (append_assoc list (opens_listed (o ∷ left)) later) ∙ ap (λ xs. (list ++ opens_listed xs) ++ later) back);
     }
 
 -- OPENCHANNEL: behind a device's first channel its sub-channels are offered
@@ -205,7 +175,7 @@ step_opens_bare plan logs v hosts phase place done o left planned at meet bare =
     let sends : with_offers h (AwaitsOpen place) o.relid answer ≡ Opens answer part place = ap (λ b. if b then Opens answer part place else One answer) mine in
     let joined : Stand open_now count (marked (host_is (vps_before plan phase) Opened) (done ++ o ∷ []) (host_before (vps_before plan phase) plan phase)) =
     stand_join hosts count (host_is (vps_before plan phase) Opened) done o (host_before (vps_before plan phase) plan phase) (host_before (vps_before plan phase) plan phase) meet.stand fact.fits.named mine_known fact.done_apart (λ q off. refl) in
-    let all_known = join_all (λ p. p.relid ≤ count) done o (all_weaker (λ p. p.relid ≤ offered_by plan phase done (o ∷ left)) (λ p. p.relid ≤ count) (λ p l. omega (arith, l)) done (done_known plan phase place done o left planned at)) mine_known in
+    let all_known = all_snoc (λ p. p.relid ≤ count) done o (all_weaker (λ p. p.relid ≤ offered_by plan phase done (o ∷ left)) (λ p. p.relid ≤ count) (λ p l. omega (arith, l)) done (done_known plan phase place done o left planned at)) mine_known in
     let fresh : (q : ℕ) → count < q → q ≤ count + length subs → marked (host_is (vps_before plan phase) Opened) (done ++ o ∷ []) (host_before (vps_before plan phase) plan phase) q ≡ offered_life = λ q above few.
     marked_apart (host_is (vps_before plan phase) Opened) (done ++ o ∷ []) (host_before (vps_before plan phase) plan phase) q (all_weaker (λ p. p.relid ≤ count) (λ p. p.relid ≢ q) (λ p l e. absurd (omega (arith, l, e, above))) (done ++ o ∷ []) all_known)
     ∙ unopened plan (host_ends (vps_before plan phase)) offered_life phase q planned (let less = at.in_plan in omega (arith, less)) (omega (arith, above)) in
@@ -220,19 +190,14 @@ step_opens_bare plan logs v hosts phase place done o left planned at meet bare =
       pieces_then = pieces_of (opening_at plan phase (place + 1));
       goes = subst (λ hs. HostStands plan part later (Some v) (with_subs open_now subs) (live_ones hs) [] (pieces_of (opening_at plan phase (place + 1)))) (sym live) onward.goes;
       says = λ sent e.
-          let rest : List Msg = flat_map host_closes (closing_of plan phase) ++ host_from plan (suc phase) in
+          let rest : List Msg = host_onward plan phase in
           let moves : List Msg = host_moves plan (phase_of plan phase) in
-          let sent_is : sent ≡ answer ∷ map offer_sub subs = e ∙ ap (λ os. answer ∷ map offer_sub (subs_next os)) here in
           ap (λ os. answers_open os ++ (moves ++ rest)) here ∙ ap (λ b. answer ∷ (((if b then host_buffer o Receive ∷ host_buffer o Send ∷ [] else []) ++ (map offer_sub subs ++ host_opens_all left)) ++ (moves ++ rest))) bare ∙ append_assoc (answer ∷ map offer_sub subs) (host_opens_all left) (moves ++ rest) ∙ ap (λ xs. (answer ∷ map offer_sub subs) ++ xs) (onward.says rest)
-          ∙ ap (λ xs. xs ++ (host_start_to_say (phase_of plan phase) later ++ (host_moves_to_say plan (phase_of plan phase) later ++ rest))) (sym sent_is);
+          ∙ ap (λ xs. xs ++ (host_start_to_say (phase_of plan phase) later ++ (host_moves_to_say plan (phase_of plan phase) later ++ rest))) (sym (e ∙ ap (λ os. answer ∷ map offer_sub (subs_next os)) here));
       heard =
-          let rest : List Msg = flat_map guest_closes (closing_of plan phase) ++ guest_from plan (suc phase) in
+          let rest : List Msg = guest_onward plan phase in
           ap (λ os. opens_listed os ++ (guest_moves plan (phase_of plan phase) ++ rest)) here ∙ ap (λ b. m ∷ (((if b then guest_buffer o Receive ++ guest_buffer o Send else []) ++ flat_map guest_opens left) ++ (guest_moves plan (phase_of plan phase) ++ rest))) bare ∙ ap (λ xs. m ∷ xs) (onward.hears rest);
     }
-  where
-    join_all : (P : Opening → Type 0) (done : List Opening) (o : Opening) → AllByRecursion P done → P o → AllByRecursion P (done ++ o ∷ [])
-    join_all P [] o all here = (here, tt)
-    join_all P (p ∷ done) o all here = (all.0, join_all P done o all.1 here)
 
 -- the page lists of its buffers come then, where it has some
 step_opens_fills : (plan : BusPlan) (logs : Logs) (v : Version) (hosts : List ChanState) (phase place : ℕ) (done : List Opening) (o : Opening) (left : List Opening) → IsPlan plan
@@ -241,7 +206,6 @@ step_opens_fills : (plan : BusPlan) (logs : Logs) (v : Version) (hosts : List Ch
 step_opens_fills plan logs v hosts phase place done o left planned at meet has =
     let h : HostSeen = a_host plan logs (Some (PhaseStart phase)) (AwaitsOpen place) (Some v) hosts (live_ones (handles done ++ o.gpadl ∷ [])) in
     let part : Option Part = Some (PhaseStart phase) in
-    let os : List Opening = phase_of plan phase in
     let m : Msg = open_on o in
     let answer : Msg = opened o.relid o.relid in
     let count : ℕ = offered_for plan phase done o left in
@@ -253,12 +217,11 @@ step_opens_fills plan logs v hosts phase place done o left planned at meet has =
     let can = can_open_host plan (vps_before plan phase) phase o.relid fact.not_before in
     let vp_is : life.vp ≡ vps_before plan phase o.relid = vp_known plan (λ (l : ChanState). l.vp) (host_ends (vps_before plan phase)) offered_life phase o.relid (λ p. refl) refl in
     let now : ChanState = so o in
-    let here : drop place os ≡ o ∷ left = left_at plan phase place done (o ∷ left) at.phase_is at.place_is in
+    let here : drop place (phase_of plan phase) ≡ o ∷ left = left_at plan phase place done (o ∷ left) at.phase_is at.place_is in
     let back = sym here in
     let none = none_behind plan phase place done o left planned at has in
     let open_now : List ChanState = slice_set hosts (o.relid - 1) now in
     let turn : HostTurn = record (at_rest h) { awaits = AwaitsFill place Receive; channels = open_now; burst = Opens answer part place } in
-    let known : by_relid hosts o.relid ≡ Some life = stand_at hosts count so done o base life meet.stand fact.fits.named mine_known fact.done_apart refl in
     let mine : is_of o.relid (opening_at plan phase place) ≡ true = ap (is_of o.relid) (opening_here plan phase place done o left at) ∙ same o.relid in
     let buffers_at : has_buffers_at (opening_at plan phase place) ≡ true = ap has_buffers_at (opening_here plan phase place done o left at) ∙ has in
     let later : HostWait = waits_list h part (place + 1) (opening_at plan phase (place + 1)) in
@@ -267,12 +230,11 @@ step_opens_fills plan logs v hosts phase place done o left planned at meet has =
     let offers : subs_offered h (AwaitsOpen place) o.relid ≡ [] = ap (λ b. if b then subs_behind plan part place else []) mine ∙ ap subs_next here ∙ none in
     let sends : with_offers h (AwaitsOpen place) o.relid answer ≡ Opens answer part place = ap (λ b. if b then Opens answer part place else One answer) mine in
     let joined : Stand open_now count (marked so (done ++ o ∷ []) base) = stand_join hosts count so done o base base meet.stand fact.fits.named mine_known fact.done_apart (λ q off. refl) in
-    let pages = length-range_with_len (buffer_begins o Receive) buffer_size in
     let list : List Msg = guest_buffer o Receive in
-    let whole : HasFirst list = cut_first o.relid (buffer_list o Receive) (buffer_pages o Receive) (omega (arith, pages)) in
+    let whole : HasFirst list = cut_first o.relid (buffer_list o Receive) (buffer_pages o Receive) (omega (arith, length-range_with_len (buffer_begins o Receive) buffer_size)) in
     record {
       turn = turn;
-      hears = ap (on_open h o.relid o.relid) known ∙ ap (open_by h o.relid o.relid life) can.row
+      hears = ap (on_open h o.relid o.relid) (stand_at hosts count so done o base life meet.stand fact.fits.named mine_known fact.done_apart refl) ∙ ap (open_by h o.relid o.relid life) can.row
           ∙ (λ i. Ok (record (at_rest h) { awaits = waits i; channels = with_subs (slice_set hosts (o.relid - 1) (stood i)) (offers i); burst = sends i }))
           ∙ ap (λ cs. Ok (record (at_rest h) { awaits = AwaitsFill place Receive; channels = cs; burst = Opens answer part place })) (append-nil open_now);
       tried_then = [];
@@ -280,16 +242,14 @@ step_opens_fills plan logs v hosts phase place done o left planned at meet has =
       goes = subst (HostStands plan part (AwaitsFill place Receive) (Some v) open_now (live_ones (handles done ++ o.gpadl ∷ [])) []) (sym whole.is)
           (fills v open_now phase place done o left Receive (live_ones (handles done ++ o.gpadl ∷ [])) whole.first whole.rest at has (record { agreed = meet.agreed; stand = joined }) (record { came = []; whole = whole.is; lists_are = refl }));
       says = λ sent e.
-          let rest : List Msg = host_moves plan os ++ (flat_map host_closes (closing_of plan phase) ++ host_from plan (suc phase)) in
-          let sent_is : answer ∷ [] ≡ sent = ap (λ ps. answer ∷ map offer_sub ps) (sym (ap subs_next here ∙ none)) ∙ sym e in
+          let rest : List Msg = host_then plan phase in
           ap (λ xs. answers_open xs ++ rest) here ∙ ap (λ b. answer ∷ (((if b then host_buffer o Receive ∷ host_buffer o Send ∷ [] else []) ++ (map offer_sub (subs_next (o ∷ left)) ++ host_opens_all left)) ++ rest)) has
-          ∙ (λ i. sent_is i ++ (answers_fill Receive (back i) ++ rest));
+          ∙ (λ i. (ap (λ ps. answer ∷ map offer_sub ps) (sym (ap subs_next here ∙ none)) ∙ sym e) i ++ (answers_fill Receive (back i) ++ rest));
       heard =
-          let rest : List Msg = guest_moves plan os ++ (flat_map guest_closes (closing_of plan phase) ++ guest_from plan (suc phase)) in
           let second : List Msg = guest_buffer o Send in
           let opens : List Msg = flat_map guest_opens left in
-          ap (λ xs. opens_listed xs ++ rest) here ∙ ap (λ b. m ∷ (((if b then list ++ second else []) ++ opens) ++ rest)) has
-          ∙ ap (λ xs. m ∷ (xs ++ rest)) (append_assoc list second opens) ∙ ap (λ xs. m ∷ ((list ++ fills_listed Receive xs) ++ rest)) back;
+          ap (λ xs. opens_listed xs ++ guest_then plan phase) here ∙ ap (λ b. m ∷ (((if b then list ++ second else []) ++ opens) ++ guest_then plan phase)) has
+          ∙ ap (λ xs. m ∷ (xs ++ guest_then plan phase)) (append_assoc list second opens) ∙ ap (λ xs. m ∷ ((list ++ fills_listed Receive xs) ++ guest_then plan phase)) back;
     }
 
 pub step_opens : (plan : BusPlan) (logs : Logs) (v : Version) (hosts : List ChanState) (phase place : ℕ) (done : List Opening) (o : Opening) (left : List Opening) → IsPlan plan
@@ -317,7 +277,6 @@ pub step_moves : (plan : BusPlan) (logs : Logs) (v : Version) (hosts : List Chan
 step_moves plan logs v hosts phase place done o left planned in_plan is at meet =
     let os : List Opening = phase_of plan phase in
     let h : HostSeen = a_host plan logs (Some (PhaseStart phase)) (AwaitsModify place) (Some v) hosts (live_ones (handles os)) in
-    let m : Msg = modify o.relid (vp_for o) in
     let more : List Opening = done ++ o ∷ [] in
     let count : ℕ = offered_before plan (suc phase) in
     let old : ℕ → ℕ = vps_before plan phase in
@@ -341,8 +300,7 @@ step_moves plan logs v hosts phase place done o left planned in_plan is at meet 
     (before_alike plan (host_ends ups) (host_ends vps) offered_life phase q (λ p e. host_alike ups vps (end_state (ends_given_back p)) q same_vp p e)) in
     let after : Stand channels count (host_moving plan phase more) = stand_now hosts count (host_moving plan phase done) (host_moving plan phase more) o.relid now meet.stand known.0 known.1 moved_so others in
     let there : moved plan os ≡ more ++ left = is ∙ sym (append_assoc done (o ∷ []) left) in
-    let long = length-append done (o ∷ []) in
-    let next_place : place + 1 ≡ length more = omega (arith, at, long) in
+    let next_place : place + 1 ≡ length more = omega (arith, at, length-append done (o ∷ [])) in
     let onward = moves_left plan v channels phase (place + 1) more left in_plan there next_place (record { agreed = meet.agreed; stand = after }) in
     let first : slice_get (moved plan os) place ≡ Some o = (λ i. slice_get (is i) (at i)) ∙ get_from done (o ∷ left) in
     let second : slice_get (moved plan os) (place + 1) ≡ slice_get left 0 = (λ i. slice_get (there i) (next_place i)) ∙ get_from more left in
@@ -358,118 +316,14 @@ step_moves plan logs v hosts phase place done o left planned in_plan is at meet 
       pieces_then = [];
       goes = onward.goes;
       says = λ sent sends.
-          let rest : List Msg = flat_map host_closes (closing_of plan phase) ++ host_from plan (suc phase) in
+          let rest : List Msg = host_onward plan phase in
           let says : List Opening → List Msg = λ ps. map (λ (p : Opening). modified p.relid) ps in
           let answers = answers_are plan v planned meet.agreed in
           ap (λ n. drop n (host_moves plan os) ++ rest) at ∙ ap (λ xs. xs ++ rest) (host_rest plan os done (o ∷ left) is ∙ ap (λ b. if b then says (o ∷ left) else []) answers ∙ says_move plan o left sent (answers_modify v.0) sends)
           ∙ ap (λ b. (sent ++ (if b then says left else [])) ++ rest) (sym answers) ∙ append_assoc sent (host_says plan left) rest ∙ ap (λ xs. sent ++ xs) (onward.says rest);
       heard =
-          let rest : List Msg = flat_map guest_closes (closing_of plan phase) ++ guest_from plan (suc phase) in
-          ap (λ n. drop n (guest_moves plan os) ++ rest) at ∙ ap (λ xs. xs ++ rest) (guest_rest plan os done (o ∷ left) is) ∙ ap (λ xs. m ∷ xs) (onward.hears rest);
-    }
-
--- CLOSECHANNEL
-pub step_closes : (plan : BusPlan) (logs : Logs) (v : Version) (hosts : List ChanState) (phase place : ℕ) (done : List Opening) (o : Opening) (left : List Opening) → IsPlan plan
-    → EndsAt plan phase place done o left → o.rescinded ≡ false
-    → Meet plan v hosts (offered_before plan (suc phase)) (marked (host_ends (vps_before plan (suc phase))) done (marked (host_is (vps_before plan (suc phase)) Opened) (o ∷ left) (host_before (vps_before plan (suc phase)) plan phase)))
-    → HostStep plan (a_host plan logs (Some (PhaseEnd phase)) (AwaitsClose place) (Some v) hosts (without_buffers (lists_but done (phase_of plan phase)) o)) [] (close o.relid) []
-step_closes plan logs v hosts phase place done o left planned at closed meet =
-    let h : HostSeen = a_host plan logs (Some (PhaseEnd phase)) (AwaitsClose place) (Some v) hosts (without_buffers (lists_but done (phase_of plan phase)) o) in
-    let m : Msg = close o.relid in
-    let fact = end_facts plan phase place done o left planned at in
-    let base : ℕ → ChanState = marked (host_is (vps_before plan (suc phase)) Opened) left (host_before (vps_before plan (suc phase)) plan phase) in
-    let now : ChanState = host_is (vps_before plan (suc phase)) Closing o in
-    let turn : HostTurn = record (at_rest h) { awaits = AwaitsTeardown place; channels = slice_set hosts (o.relid - 1) now } in
-    let known : by_relid hosts o.relid ≡ Some (host_is (vps_before plan (suc phase)) Opened o) = stand_at hosts (offered_before plan (suc phase)) (host_ends (vps_before plan (suc phase))) done o (marked (host_is (vps_before plan (suc phase)) Opened) (o ∷ left) (host_before (vps_before plan (suc phase)) plan phase)) (host_is (vps_before plan (suc phase)) Opened o) meet.stand fact.fits.named fact.known fact.done_apart (marked_here (host_is (vps_before plan (suc phase)) Opened) o left (host_before (vps_before plan (suc phase)) plan phase)) in
-    let mine : is_of o.relid (closing_at plan phase place) ≡ true = ap (is_of o.relid) (closing_here plan phase place done o left at) ∙ same o.relid in
-    let next : Stand (slice_set hosts (o.relid - 1) now) (offered_before plan (suc phase)) (marked (host_ends (vps_before plan (suc phase))) done (marked (host_is (vps_before plan (suc phase)) Closing) (o ∷ []) base)) =
-    stand_mark hosts (offered_before plan (suc phase)) (host_ends (vps_before plan (suc phase))) (host_is (vps_before plan (suc phase)) Closing) done o (marked (host_is (vps_before plan (suc phase)) Opened) (o ∷ left) (host_before (vps_before plan (suc phase)) plan phase)) base meet.stand fact.fits.named fact.known fact.done_apart (λ q off. sym (marked_there (host_is (vps_before plan (suc phase)) Opened) o left (host_before (vps_before plan (suc phase)) plan phase) q off)) in
-    record {
-      turn = turn;
-      hears = ap (on_close h o.relid) known ∙ ap (λ b. Ok (record (at_rest h) { awaits = if b then AwaitsTeardown place else AwaitsClose place; channels = slice_set hosts (o.relid - 1) now })) mine;
-      tried_then = [];
-      pieces_then = [];
-      goes = tears v (slice_set hosts (o.relid - 1) now) phase place done o left at closed (record { agreed = meet.agreed; stand = next });
-      says = λ sent e. ap (λ s. s ++ (torn_left (drop place (closing_of plan phase)) ++ host_from plan (suc phase))) (sym e);
-      heard =
-          let later : List Msg = guest_from plan (suc phase) in
-          let here = ends_left plan phase place done (o ∷ left) at.closing_is at.place_is in
-          ap (λ os. closes_left os ++ later) here ∙ ap (λ os. m ∷ (tears_down os ++ later)) (sym here);
-    }
-
--- GPADL_TEARDOWN, for the page list of a buffer: behind that of the send buffer that of the receive buffer is to be torn down, and behind both the channel to be closed
-record Emptied (plan : BusPlan) (logs : Logs) (v : Version) (hosts : List ChanState) (phase place : ℕ) (done : List Opening) (o : Opening) (k : Buffer) : Type 0 where
-  hears : host_hears (a_host plan logs (Some (PhaseEnd phase)) (AwaitsEmpty place k) (Some v) hosts (lists_beside (lists_but done (phase_of plan phase)) o k)) (teardown_buffer o k)
-      ≡ Ok (record (at_rest (a_host plan logs (Some (PhaseEnd phase)) (AwaitsEmpty place k) (Some v) hosts (lists_beside (lists_but done (phase_of plan phase)) o k))) { awaits = emptied_next place k; lists = without (lists_beside (lists_but done (phase_of plan phase)) o k) (buffer_list o k); burst = One (torndown (buffer_list o k)) })
-
-emptied_so : (plan : BusPlan) (logs : Logs) (v : Version) (hosts : List ChanState) (phase place : ℕ) (done : List Opening) (o : Opening) (left : List Opening) (k : Buffer) → IsPlan plan
-    → EndsAt plan phase place done o left → o.buffers ≡ true
-    → Meet plan v hosts (offered_before plan (suc phase)) (marked (host_ends (vps_before plan (suc phase))) done (marked (host_is (vps_before plan (suc phase)) Opened) (o ∷ left) (host_before (vps_before plan (suc phase)) plan phase)))
-    → Emptied plan logs v hosts phase place done o k
-emptied_so plan logs v hosts phase place done o left k planned at has meet =
-    let lists : Assembly = lists_beside (lists_but done (phase_of plan phase)) o k in
-    let h : HostSeen = a_host plan logs (Some (PhaseEnd phase)) (AwaitsEmpty place k) (Some v) hosts lists in
-    let handle : ℕ = buffer_list o k in
-    let so : Opening → ChanState = host_is (vps_before plan (suc phase)) Opened in
-    let base : ℕ → ChanState = host_before (vps_before plan (suc phase)) plan phase in
-    let fact = end_facts plan phase place done o left planned at in
-    let known : by_relid hosts o.relid ≡ Some (so o) = stand_at hosts (offered_before plan (suc phase)) (host_ends (vps_before plan (suc phase))) done o (marked so (o ∷ left) base) (so o) meet.stand fact.fits.named fact.known fact.done_apart (marked_here so o left base) in
-    let live = buffer_live plan phase place done o left k planned at has in
-    let buffer = buffer_known plan phase place done o left k at has in
-    let mine : is_list_of k o.relid handle (closing_at plan phase place) ≡ true = ap (is_list_of k o.relid handle) (closing_here plan phase place done o left at) ∙ (λ i. same o.relid i && same handle i) in
-    let with_wait : HostWait → HostTurn = λ w. record (at_rest h) { awaits = w; lists = without lists handle; burst = One (torndown handle) } in
-    record {
-      hears = ap (on_teardown h o.relid handle) known
-          ∙ ap (λ b. if b then tears_live h o.relid handle (so o) else Err (Gpadl (Handle handle))) live
-          ∙ ap (λ b. if b then Ok (empties_one h o.relid handle) else teardown_by h o.relid handle (so o) (row_of (so o) TeardownSeen)) buffer
-          ∙ ap (λ b. Ok (with_wait (if b then emptied_next place k else AwaitsEmpty place k))) mine;
-    }
-
-pub step_empties : (plan : BusPlan) (logs : Logs) (v : Version) (hosts : List ChanState) (phase place : ℕ) (done : List Opening) (o : Opening) (left : List Opening) (k : Buffer) → IsPlan plan
-    → EndsAt plan phase place done o left → o.rescinded ≡ false → o.buffers ≡ true
-    → Meet plan v hosts (offered_before plan (suc phase)) (marked (host_ends (vps_before plan (suc phase))) done (marked (host_is (vps_before plan (suc phase)) Opened) (o ∷ left) (host_before (vps_before plan (suc phase)) plan phase)))
-    → HostStep plan (a_host plan logs (Some (PhaseEnd phase)) (AwaitsEmpty place k) (Some v) hosts (lists_beside (lists_but done (phase_of plan phase)) o k)) [] (teardown_buffer o k) []
-step_empties plan logs v hosts phase place done o left Send planned at closed has meet =
-    let h : HostSeen = a_host plan logs (Some (PhaseEnd phase)) (AwaitsEmpty place Send) (Some v) hosts (lists_but done (phase_of plan phase)) in
-    let gone : Assembly = without (lists_but done (phase_of plan phase)) (buffer_list o Send) in
-    let m : Msg = teardown_buffer o Send in
-    let answer : Msg = torndown (buffer_list o Send) in
-    let here = ends_left plan phase place done (o ∷ left) at.closing_is at.place_is in
-    let back = sym here in
-    record {
-      turn = record (at_rest h) { awaits = AwaitsEmpty place Receive; lists = gone; burst = One answer };
-      hears = (emptied_so plan logs v hosts phase place done o left Send planned at has meet).hears;
-      tried_then = [];
-      pieces_then = [];
-      goes = empties v hosts phase place done o left Receive at closed has meet;
-      says = λ sent e.
-          let later : List Msg = host_from plan (suc phase) in
-          ap (λ os. emptied_left Send os ++ later) here ∙ ap (λ os. answer ∷ (emptied_left Receive os ++ later)) back ∙ ap (λ s. s ++ (emptied_left Receive (drop place (closing_of plan phase)) ++ later)) (sym e);
-      heard =
-          let later : List Msg = guest_from plan (suc phase) in
-          ap (λ os. tears_left Send os ++ later) here ∙ ap (λ os. m ∷ (tears_left Receive os ++ later)) back;
-    }
-step_empties plan logs v hosts phase place done o left Receive planned at closed has meet =
-    let all : Assembly = lists_but done (phase_of plan phase) in
-    let h : HostSeen = a_host plan logs (Some (PhaseEnd phase)) (AwaitsEmpty place Receive) (Some v) hosts (without all (buffer_list o Send)) in
-    let gone : Assembly = without (without all (buffer_list o Send)) (buffer_list o Receive) in
-    let both : gone ≡ without_buffers all o = ap (λ b. if b then gone else all) (sym has) in
-    let m : Msg = teardown_buffer o Receive in
-    let answer : Msg = torndown (buffer_list o Receive) in
-    let here = ends_left plan phase place done (o ∷ left) at.closing_is at.place_is in
-    let back = sym here in
-    record {
-      turn = record (at_rest h) { awaits = AwaitsClose place; lists = gone; burst = One answer };
-      hears = (emptied_so plan logs v hosts phase place done o left Receive planned at has meet).hears;
-      tried_then = [];
-      pieces_then = [];
-      goes = subst (λ l. HostStands plan (Some (PhaseEnd phase)) (AwaitsClose place) (Some v) hosts l [] []) (sym both) (closes v hosts phase place done o left at closed meet);
-      says = λ sent e.
-          let later : List Msg = host_from plan (suc phase) in
-          ap (λ os. emptied_left Receive os ++ later) here ∙ ap (λ os. answer ∷ (torn_left os ++ later)) back ∙ ap (λ s. s ++ (torn_left (drop place (closing_of plan phase)) ++ later)) (sym e);
-      heard =
-          let later : List Msg = guest_from plan (suc phase) in
-          ap (λ os. tears_left Receive os ++ later) here ∙ ap (λ os. m ∷ (closes_left os ++ later)) back;
+          let rest : List Msg = guest_onward plan phase in
+          ap (λ n. drop n (guest_moves plan os) ++ rest) at ∙ ap (λ xs. xs ++ rest) (guest_rest plan os done (o ∷ left) is) ∙ ap (λ xs. (modify o.relid (vp_for o)) ∷ xs) (onward.hears rest);
     }
 
 -- what is left to say and to hear behind a channel that is done with
@@ -482,183 +336,242 @@ ends_so : (plan : BusPlan) (v : Version) (hosts : List ChanState) (phase place :
     → HostEnds plan phase hosts (lists_but done (phase_of plan phase)) next (host_next_awaits place left) (marked (host_ends (vps_before plan (suc phase))) done (host_next_stands (vps_before plan (suc phase)) left (host_before (vps_before plan (suc phase)) plan phase))) (lists_but (host_next_done done left) (phase_of plan phase)) (host_next_sends left) → EndsSo plan phase left next
 ends_so plan v hosts phase place done left next in_plan is at ends =
     let os : List Opening = closing_of plan phase in
-    let later : List Msg = host_from plan (suc phase) in
     record {
       says = λ answer sent sends.
-          ap (λ xs. option_to_list answer ++ (xs ++ later)) (host_ends_said plan phase place done left in_plan is at)
-          ∙ ap (λ xs. option_to_list answer ++ xs) (append_assoc (host_next_sends left) (host_end_to_say os (host_next_awaits place left)) later)
-          ∙ sym (append_assoc (option_to_list answer) (host_next_sends left) (host_end_to_say os (host_next_awaits place left) ++ later))
-          ∙ ap (λ xs. xs ++ (host_end_to_say os (host_next_awaits place left) ++ later)) (sym (ends.said answer sent sends))
-          ∙ ap (λ w. sent ++ (host_end_to_say os w ++ later)) (sym ends.awaits);
+          ap (λ xs. option_to_list answer ++ (xs ++ host_from plan (suc phase))) (host_ends_said plan phase place done left in_plan is at)
+          ∙ ap (λ xs. option_to_list answer ++ xs) (append_assoc (host_next_sends left) (host_end_to_say os (host_next_awaits place left)) (host_from plan (suc phase)))
+          ∙ sym (append_assoc (option_to_list answer) (host_next_sends left) (host_end_to_say os (host_next_awaits place left) ++ host_from plan (suc phase)))
+          ∙ ap (λ xs. xs ++ (host_end_to_say os (host_next_awaits place left) ++ host_from plan (suc phase))) (sym (ends.said answer sent sends))
+          ∙ ap (λ w. sent ++ (host_end_to_say os w ++ host_from plan (suc phase))) (sym ends.awaits);
       heard = host_ends_heard plan phase place done left is at ∙ ap (host_end_to_hear os) (sym ends.awaits);
     }
 
--- GPADL_TEARDOWN: a first channel is done with then
-step_tears_first : (plan : BusPlan) (logs : Logs) (v : Version) (hosts : List ChanState) (phase place : ℕ) (done : List Opening) (o : Opening) (left : List Opening) → IsPlan plan
-    → EndsAt plan phase place done o left → o.rescinded ≡ false → is_sub o ≡ false
-    → Meet plan v hosts (offered_before plan (suc phase)) (marked (host_ends (vps_before plan (suc phase))) done (marked (host_is (vps_before plan (suc phase)) Closing) (o ∷ []) (marked (host_is (vps_before plan (suc phase)) Opened) left (host_before (vps_before plan (suc phase)) plan phase))))
-    → HostStep plan (a_host plan logs (Some (PhaseEnd phase)) (AwaitsTeardown place) (Some v) hosts (without_buffers (lists_but done (phase_of plan phase)) o)) [] (teardown o) []
-step_tears_first plan logs v hosts phase place done o left planned at closed is_first meet =
-    let os : List Opening = phase_of plan phase in
-    let lists : Assembly = without_buffers (lists_but done os) o in
-    let h : HostSeen = a_host plan logs (Some (PhaseEnd phase)) (AwaitsTeardown place) (Some v) hosts lists in
-    let m : Msg = teardown o in
-    let count : ℕ = offered_before plan (suc phase) in
-    let fact = end_facts plan phase place done o left planned at in
-    let base : ℕ → ChanState = marked (host_is (vps_before plan (suc phase)) Opened) left (host_before (vps_before plan (suc phase)) plan phase) in
-    let kept : ends_given_back o ≡ false = ap (λ b. b || is_sub o) closed ∙ is_first in
-    let so : host_ends (vps_before plan (suc phase)) o ≡ host_is (vps_before plan (suc phase)) Closed o = ap (λ b. host_is (vps_before plan (suc phase)) (end_state b) o) kept in
-    let back = sym so in
-    let later : HostNext = next_end hosts (place + 1) (closing_at plan phase (place + 1)) in
-    let after : List ChanState = slice_set hosts (o.relid - 1) (host_ends (vps_before plan (suc phase)) o) in
-    let turn_with : ChanState → Assembly → HostNext → HostTurn = λ now lists next. goes_next (record (at_rest h) { channels = slice_set hosts (o.relid - 1) now; lists = lists }) (Some (torndown o.gpadl)) next in
-    let turn : HostTurn = turn_with (host_ends (vps_before plan (suc phase)) o) (lists_but (done ++ o ∷ []) os) later in
-    let known : by_relid hosts o.relid ≡ Some (host_is (vps_before plan (suc phase)) Closing o) = stand_at hosts count (host_ends (vps_before plan (suc phase))) done o (marked (host_is (vps_before plan (suc phase)) Closing) (o ∷ []) base) (host_is (vps_before plan (suc phase)) Closing o) meet.stand fact.fits.named fact.known fact.done_apart (marked_here (host_is (vps_before plan (suc phase)) Closing) o [] base) in
-    let here_is = closing_here plan phase place done o left at in
-    let mine : is_of o.relid (closing_at plan phase place) ≡ true = ap (is_of o.relid) here_is ∙ same o.relid in
-    let taken : HostNext = record { awaits = AwaitsRelease place; rescinds = wants_rescind o (Some (host_is (vps_before plan (suc phase)) Closed o)) } in
-    let goes : torn_for h place o.relid (host_is (vps_before plan (suc phase)) Closed o) (closing_at plan phase place) ≡ later =
-    ap (torn_for h place o.relid (host_is (vps_before plan (suc phase)) Closed o)) here_is
-    ∙ ap (λ b. if b && is_sub o then taken else (if is_of o.relid (closing_at plan phase place) then later else stays h)) (same o.relid)
-    ∙ ap (λ b. if b then taken else (if is_of o.relid (closing_at plan phase place) then later else stays h)) is_first
-    ∙ ap (λ b. if b then later else stays h) mine in
-    let live : is_live lists.live o.gpadl ≡ true = still_live plan phase place done o left planned at in
-    let rings = rings_known plan phase place done o left planned at in
-    let closing : ChanState = host_is (vps_before plan (suc phase)) Closing o in
-    let gone = let_go done o os in
-    let stood : Stand after count (marked (host_ends (vps_before plan (suc phase))) (done ++ o ∷ []) base) =
-    stand_join hosts count (host_ends (vps_before plan (suc phase))) done o (marked (host_is (vps_before plan (suc phase)) Closing) (o ∷ []) base) base meet.stand fact.fits.named fact.known fact.done_apart (λ q off. sym (marked_there (host_is (vps_before plan (suc phase)) Closing) o [] base q off)) in
-    let next = next_is plan hosts phase place (host_ends (vps_before plan (suc phase))) (host_is (vps_before plan (suc phase)) Closing) (host_is (vps_before plan (suc phase)) Opened) done o left (host_before (vps_before plan (suc phase)) plan phase) planned at meet.stand in
-    let ends = host_goes plan after hosts phase (place + 1) (done ++ o ∷ []) left planned at.in_plan (ends_more plan phase place done o left at) (ends_place plan phase place done o left at) stood next in
-    let on = ends_so plan v after phase (place + 1) (done ++ o ∷ []) left later at.in_plan (ends_more plan phase place done o left at) (ends_place plan phase place done o left at) ends in
-    let here = ends_left plan phase place done (o ∷ left) at.closing_is at.place_is in
-    record {
-      turn = turn;
-      hears = ap (on_teardown h o.relid o.gpadl) known
-          ∙ ap (λ b. if b then tears_live h o.relid o.gpadl closing else Err (Gpadl (Handle o.gpadl))) live
-          ∙ ap (λ b. if b then Ok (empties_one h o.relid o.gpadl) else Ok (turn_with (host_is (vps_before plan (suc phase)) Closed o) (without lists o.gpadl) (torn_for h place o.relid (host_is (vps_before plan (suc phase)) Closed o) (closing_at plan phase place)))) rings
-          ∙ (λ i. Ok (turn_with (back i) (gone i) (goes i)));
-      tried_then = [];
-      pieces_then = [];
-      goes = host_stands_so plan phase v (Some (PhaseEnd phase)) after (lists_but (done ++ o ∷ []) os) later (host_next_awaits (place + 1) left) (marked (host_ends (vps_before plan (suc phase))) (done ++ o ∷ []) (host_next_stands (vps_before plan (suc phase)) left (host_before (vps_before plan (suc phase)) plan phase))) (lists_but (host_next_done (done ++ o ∷ []) left) os) (host_next_sends left) ends
-          (host_next plan v (rescinded_among after later.rescinds) phase (place + 1) (done ++ o ∷ []) left planned at.in_plan (ends_more plan phase place done o left at) (ends_place plan phase place done o left at) (record { agreed = meet.agreed; stand = ends.host }));
-      says = λ sent sends.
-          let rest : List Msg = host_from plan (suc phase) in
-          ap (λ os. torn_left os ++ rest) here
-          ∙ ap (λ b. torndown o.gpadl ∷ (((if b then rescind o.relid ∷ [] else []) ++ flat_map host_closes left) ++ rest)) is_first ∙ on.says (Some (torndown o.gpadl)) sent sends;
-      heard =
-          let rest : List Msg = guest_from plan (suc phase) in
-          ap (λ os. tears_down os ++ rest) here ∙ ap (λ b. m ∷ (((if b then release o.relid ∷ [] else []) ++ flat_map guest_closes left) ++ rest)) is_first ∙ ap (λ xs. m ∷ (xs ++ rest)) on.heard;
-    }
+-- at the end of a phase
+module _ (plan : BusPlan) (logs : Logs) (v : Version) (hosts : List ChanState) (phase place : ℕ) (done : List Opening) (o : Opening) (left : List Opening) (planned : IsPlan plan) (at : EndsAt plan phase place done o left) where
+  abbrev so : State → Opening → ChanState
+  so = host_is (vps_before plan (suc phase))
 
--- a sub-channel is rescinded then
-step_tears_sub : (plan : BusPlan) (logs : Logs) (v : Version) (hosts : List ChanState) (phase place : ℕ) (done : List Opening) (o : Opening) (left : List Opening) → IsPlan plan
-    → EndsAt plan phase place done o left → o.rescinded ≡ false → is_sub o ≡ true
-    → Meet plan v hosts (offered_before plan (suc phase)) (marked (host_ends (vps_before plan (suc phase))) done (marked (host_is (vps_before plan (suc phase)) Closing) (o ∷ []) (marked (host_is (vps_before plan (suc phase)) Opened) left (host_before (vps_before plan (suc phase)) plan phase))))
-    → HostStep plan (a_host plan logs (Some (PhaseEnd phase)) (AwaitsTeardown place) (Some v) hosts (without_buffers (lists_but done (phase_of plan phase)) o)) [] (teardown o) []
-step_tears_sub plan logs v hosts phase place done o left planned at closed sub meet =
-    let os : List Opening = phase_of plan phase in
-    let lists : Assembly = without_buffers (lists_but done os) o in
-    let h : HostSeen = a_host plan logs (Some (PhaseEnd phase)) (AwaitsTeardown place) (Some v) hosts lists in
-    let m : Msg = teardown o in
-    let count : ℕ = offered_before plan (suc phase) in
-    let fact = end_facts plan phase place done o left planned at in
-    let base : ℕ → ChanState = marked (host_is (vps_before plan (suc phase)) Opened) left (host_before (vps_before plan (suc phase)) plan phase) in
-    let taken : HostNext = record { awaits = AwaitsRelease place; rescinds = wants_rescind o (Some (host_is (vps_before plan (suc phase)) Closed o)) } in
-    let once : List ChanState = slice_set hosts (o.relid - 1) (host_is (vps_before plan (suc phase)) Closed o) in
-    let after : List ChanState = slice_set once (o.relid - 1) (host_is (vps_before plan (suc phase)) IsRescinded o) in
-    let turn_with : Assembly → HostNext → HostTurn = λ lists next. goes_next (record (at_rest h) { channels = once; lists = lists }) (Some (torndown o.gpadl)) next in
-    let whole : Assembly → HostTurn = λ lists. record { awaits = AwaitsRelease place; version = Some v; channels = after; lists = lists; burst = Two (torndown o.gpadl) (rescind o.relid) } in
-    let turn : HostTurn = whole (lists_but (done ++ o ∷ []) os) in
-    let known : by_relid hosts o.relid ≡ Some (host_is (vps_before plan (suc phase)) Closing o) = stand_at hosts count (host_ends (vps_before plan (suc phase))) done o (marked (host_is (vps_before plan (suc phase)) Closing) (o ∷ []) base) (host_is (vps_before plan (suc phase)) Closing o) meet.stand fact.fits.named fact.known fact.done_apart (marked_here (host_is (vps_before plan (suc phase)) Closing) o [] base) in
-    let here_is = closing_here plan phase place done o left at in
-    let later : HostNext = next_end hosts (place + 1) (closing_at plan phase (place + 1)) in
-    let goes : torn_for h place o.relid (host_is (vps_before plan (suc phase)) Closed o) (closing_at plan phase place) ≡ taken =
-    ap (torn_for h place o.relid (host_is (vps_before plan (suc phase)) Closed o)) here_is
-    ∙ ap (λ b. if b && is_sub o then taken else (if is_of o.relid (closing_at plan phase place) then later else stays h)) (same o.relid)
-    ∙ ap (λ b. if b then taken else (if is_of o.relid (closing_at plan phase place) then later else stays h)) sub in
-    let live : is_live lists.live o.gpadl ≡ true = still_live plan phase place done o left planned at in
-    let rings = rings_known plan phase place done o left planned at in
-    let closing : ChanState = host_is (vps_before plan (suc phase)) Closing o in
-    let gone = let_go_again done o os in
-    let closed_so : Stand once count (marked (host_ends (vps_before plan (suc phase))) done (marked (host_is (vps_before plan (suc phase)) Closed) (o ∷ []) base)) =
-    stand_mark hosts count (host_ends (vps_before plan (suc phase))) (host_is (vps_before plan (suc phase)) Closed) done o (marked (host_is (vps_before plan (suc phase)) Closing) (o ∷ []) base) base meet.stand fact.fits.named fact.known fact.done_apart (λ q off. sym (marked_there (host_is (vps_before plan (suc phase)) Closing) o [] base q off)) in
-    let stood : Stand after count (marked (host_ends (vps_before plan (suc phase))) done (marked (host_is (vps_before plan (suc phase)) IsRescinded) (o ∷ []) base)) =
-    stand_mark once count (host_ends (vps_before plan (suc phase))) (host_is (vps_before plan (suc phase)) IsRescinded) done o (marked (host_is (vps_before plan (suc phase)) Closed) (o ∷ []) base) base closed_so fact.fits.named fact.known fact.done_apart (λ q off. sym (marked_there (host_is (vps_before plan (suc phase)) Closed) o [] base q off)) in
-    let here = ends_left plan phase place done (o ∷ left) at.closing_is at.place_is in
-    record {
-      turn = turn;
-      hears = ap (on_teardown h o.relid o.gpadl) known
-          ∙ ap (λ b. if b then tears_live h o.relid o.gpadl closing else Err (Gpadl (Handle o.gpadl))) live
-          ∙ ap (λ b. if b then Ok (empties_one h o.relid o.gpadl) else Ok (turn_with (without lists o.gpadl) (torn_for h place o.relid (host_is (vps_before plan (suc phase)) Closed o) (closing_at plan phase place)))) rings
-          ∙ ap (λ n. Ok (turn_with (without lists o.gpadl) n)) goes ∙ ap (λ l. Ok (whole l)) gone;
-      tried_then = [];
-      pieces_then = [];
-      goes = takes_back v after phase place done o left at (ap (λ b. b || is_sub o) closed ∙ sub) (record { agreed = meet.agreed; stand = stood });
-      says = λ sent e.
-          let rest : List Msg = host_from plan (suc phase) in
-          ap (λ os. torn_left os ++ rest) here
-          ∙ ap (λ b. torndown o.gpadl ∷ (((if b then rescind o.relid ∷ [] else []) ++ flat_map host_closes left) ++ rest)) sub
-          ∙ ap (λ os. torndown o.gpadl ∷ rescind o.relid ∷ (flat_map host_closes os ++ rest)) (sym (ends_behind plan phase place done o left at))
-          ∙ ap (λ s. s ++ (flat_map host_closes (drop (suc place) (closing_of plan phase)) ++ rest)) (sym e);
-      heard =
-          let rest : List Msg = guest_from plan (suc phase) in
-          ap (λ os. tears_down os ++ rest) here ∙ ap (λ b. m ∷ (((if b then release o.relid ∷ [] else []) ++ flat_map guest_closes left) ++ rest)) sub ∙ ap (λ os. m ∷ (gives_one os ++ rest)) (sym here);
-    }
+  abbrev as_left : Opening → ChanState
+  as_left = host_ends (vps_before plan (suc phase))
 
-pub step_tears : (plan : BusPlan) (logs : Logs) (v : Version) (hosts : List ChanState) (phase place : ℕ) (done : List Opening) (o : Opening) (left : List Opening) → IsPlan plan
-    → EndsAt plan phase place done o left → o.rescinded ≡ false
-    → Meet plan v hosts (offered_before plan (suc phase)) (marked (host_ends (vps_before plan (suc phase))) done (marked (host_is (vps_before plan (suc phase)) Closing) (o ∷ []) (marked (host_is (vps_before plan (suc phase)) Opened) left (host_before (vps_before plan (suc phase)) plan phase))))
-    → HostStep plan (a_host plan logs (Some (PhaseEnd phase)) (AwaitsTeardown place) (Some v) hosts (without_buffers (lists_but done (phase_of plan phase)) o)) [] (teardown o) []
-step_tears plan logs v hosts phase place done o left planned at closed meet =
-    by_test {P = HostStep plan (a_host plan logs (Some (PhaseEnd phase)) (AwaitsTeardown place) (Some v) hosts (without_buffers (lists_but done (phase_of plan phase)) o)) [] (teardown o) []} (is_sub o)
-    (λ e. step_tears_sub plan logs v hosts phase place done o left planned at closed e meet)
-    (λ e. step_tears_first plan logs v hosts phase place done o left planned at closed e meet)
+  abbrev before : ℕ → ChanState
+  before = host_before (vps_before plan (suc phase)) plan phase
 
--- RELID_RELEASED
-pub step_releases : (plan : BusPlan) (logs : Logs) (v : Version) (hosts : List ChanState) (phase place : ℕ) (done : List Opening) (o : Opening) (left : List Opening) → IsPlan plan
-    → EndsAt plan phase place done o left → ends_given_back o ≡ true
-    → Meet plan v hosts (offered_before plan (suc phase)) (marked (host_ends (vps_before plan (suc phase))) done (marked (host_is (vps_before plan (suc phase)) IsRescinded) (o ∷ []) (marked (host_is (vps_before plan (suc phase)) Opened) left (host_before (vps_before plan (suc phase)) plan phase))))
-    → HostStep plan (a_host plan logs (Some (PhaseEnd phase)) (AwaitsRelease place) (Some v) hosts (lists_but (done ++ o ∷ []) (phase_of plan phase))) [] (release o.relid) []
-step_releases plan logs v hosts phase place done o left planned at gone meet =
-    let h : HostSeen = a_host plan logs (Some (PhaseEnd phase)) (AwaitsRelease place) (Some v) hosts (lists_but (done ++ o ∷ []) (phase_of plan phase)) in
-    let m : Msg = release o.relid in
-    let fact = end_facts plan phase place done o left planned at in
-    let base : ℕ → ChanState = marked (host_is (vps_before plan (suc phase)) Opened) left (host_before (vps_before plan (suc phase)) plan phase) in
-    let so : host_ends (vps_before plan (suc phase)) o ≡ host_is (vps_before plan (suc phase)) Released o = ap (λ b. host_is (vps_before plan (suc phase)) (end_state b) o) gone in
-    let back = sym so in
-    let later : HostNext = next_end hosts (place + 1) (closing_at plan phase (place + 1)) in
-    let after : List ChanState = slice_set hosts (o.relid - 1) (host_ends (vps_before plan (suc phase)) o) in
-    let turn_with : ChanState → HostNext → HostTurn = λ now next. goes_next (record (at_rest h) { channels = slice_set hosts (o.relid - 1) now }) None next in
-    let turn : HostTurn = turn_with (host_ends (vps_before plan (suc phase)) o) later in
-    let known : by_relid hosts o.relid ≡ Some (host_is (vps_before plan (suc phase)) IsRescinded o) = stand_at hosts (offered_before plan (suc phase)) (host_ends (vps_before plan (suc phase))) done o (marked (host_is (vps_before plan (suc phase)) IsRescinded) (o ∷ []) base) (host_is (vps_before plan (suc phase)) IsRescinded o) meet.stand fact.fits.named fact.known fact.done_apart (marked_here (host_is (vps_before plan (suc phase)) IsRescinded) o [] base) in
-    let mine : is_of o.relid (closing_at plan phase place) ≡ true = ap (is_of o.relid) (closing_here plan phase place done o left at) ∙ same o.relid in
-    let stood : Stand after (offered_before plan (suc phase)) (marked (host_ends (vps_before plan (suc phase))) (done ++ o ∷ []) base) =
-    stand_join hosts (offered_before plan (suc phase)) (host_ends (vps_before plan (suc phase))) done o (marked (host_is (vps_before plan (suc phase)) IsRescinded) (o ∷ []) base) base meet.stand fact.fits.named fact.known fact.done_apart (λ q off. sym (marked_there (host_is (vps_before plan (suc phase)) IsRescinded) o [] base q off)) in
-    let next = next_is plan hosts phase place (host_ends (vps_before plan (suc phase))) (host_is (vps_before plan (suc phase)) IsRescinded) (host_is (vps_before plan (suc phase)) Opened) done o left (host_before (vps_before plan (suc phase)) plan phase) planned at meet.stand in
-    let ends = host_goes plan after hosts phase (place + 1) (done ++ o ∷ []) left planned at.in_plan (ends_more plan phase place done o left at) (ends_place plan phase place done o left at) stood next in
-    let on = ends_so plan v after phase (place + 1) (done ++ o ∷ []) left later at.in_plan (ends_more plan phase place done o left at) (ends_place plan phase place done o left at) ends in
-    record {
-      turn = turn;
-      hears = ap (on_release h o.relid) known ∙ (λ i. Ok (turn_with (back i) (if mine i then later else stays h)));
-      tried_then = [];
-      pieces_then = [];
-      goes = host_stands_so plan phase v (Some (PhaseEnd phase)) after (lists_but (done ++ o ∷ []) (phase_of plan phase)) later (host_next_awaits (place + 1) left) (marked (host_ends (vps_before plan (suc phase))) (done ++ o ∷ []) (host_next_stands (vps_before plan (suc phase)) left (host_before (vps_before plan (suc phase)) plan phase))) (lists_but (host_next_done (done ++ o ∷ []) left) (phase_of plan phase)) (host_next_sends left) ends
-          (host_next plan v (rescinded_among after later.rescinds) phase (place + 1) (done ++ o ∷ []) left planned at.in_plan (ends_more plan phase place done o left at) (ends_place plan phase place done o left at) (record { agreed = meet.agreed; stand = ends.host }));
-      says = λ sent sends.
-          let rest : List Msg = host_from plan (suc phase) in
-          ap (λ os. flat_map host_closes os ++ rest) (ends_behind plan phase place done o left at) ∙ on.says None sent sends;
-      heard =
-          let rest : List Msg = guest_from plan (suc phase) in
-          ap (λ os. gives_one os ++ rest) (ends_left plan phase place done (o ∷ left) at.closing_is at.place_is) ∙ ap (λ xs. m ∷ (xs ++ rest)) on.heard;
-    }
+  abbrev base : ℕ → ChanState
+  base = marked (so Opened) left before
+
+  abbrev ending : HostWait → Assembly → HostSeen
+  ending awaits live = a_host plan logs (Some (PhaseEnd phase)) awaits (Some v) hosts live
+
+  abbrev all : Assembly
+  all = lists_but done (phase_of plan phase)
+
+  fact : Facts plan phase done o left
+  fact = end_facts plan phase place done o left planned at
+
+  here : drop place (closing_of plan phase) ≡ o ∷ left
+  here = ends_left plan phase place done (o ∷ left) at.closing_is at.place_is
+
+  -- CLOSECHANNEL
+  pub step_closes : o.rescinded ≡ false → Meet plan v hosts (offered_before plan (suc phase)) (marked as_left done (marked (so Opened) (o ∷ left) before)) → HostStep plan (ending (AwaitsClose place) (without_buffers all o)) [] (close o.relid) []
+  step_closes closed meet =
+      let h : HostSeen = ending (AwaitsClose place) (without_buffers all o) in
+      let now : ChanState = so Closing o in
+      let turn : HostTurn = record (at_rest h) { awaits = AwaitsTeardown place; channels = slice_set hosts (o.relid - 1) now } in
+      let known : by_relid hosts o.relid ≡ Some (so Opened o) = stand_at hosts (offered_before plan (suc phase)) as_left done o (marked (so Opened) (o ∷ left) before) (so Opened o) meet.stand fact.fits.named fact.known fact.done_apart (marked_here (so Opened) o left before) in
+      let mine : is_of o.relid (closing_at plan phase place) ≡ true = ap (is_of o.relid) (closing_here plan phase place done o left at) ∙ same o.relid in
+      let next : Stand (slice_set hosts (o.relid - 1) now) (offered_before plan (suc phase)) (marked as_left done (marked (so Closing) (o ∷ []) base)) =
+      stand_mark hosts (offered_before plan (suc phase)) as_left (so Closing) done o (marked (so Opened) (o ∷ left) before) base meet.stand fact.fits.named fact.known fact.done_apart (λ q off. sym (marked_there (so Opened) o left before q off)) in
+      record {
+        turn = turn;
+        hears = ap (on_close h o.relid) known ∙ ap (λ b. Ok (record (at_rest h) { awaits = if b then AwaitsTeardown place else AwaitsClose place; channels = slice_set hosts (o.relid - 1) now })) mine;
+        tried_then = [];
+        pieces_then = [];
+        goes = tears v (slice_set hosts (o.relid - 1) now) phase place done o left at closed (record { agreed = meet.agreed; stand = next });
+        says = λ sent e. ap (λ s. s ++ (torn_left (drop place (closing_of plan phase)) ++ host_from plan (suc phase))) (sym e);
+        heard =
+            ap (λ os. closes_left os ++ guest_from plan (suc phase)) here ∙ ap (λ os. (close o.relid) ∷ (tears_down os ++ guest_from plan (suc phase))) (sym here);
+      }
+
+  -- GPADL_TEARDOWN, for the page list of a buffer: behind that of the send buffer that of the receive buffer is to be torn down, and behind both the channel to be closed
+  record Emptied (k : Buffer) : Type 0 where
+    hears : host_hears (ending (AwaitsEmpty place k) (lists_beside all o k)) (teardown_buffer o k)
+        ≡ Ok (record (at_rest (ending (AwaitsEmpty place k) (lists_beside all o k))) { awaits = emptied_next place k; lists = without (lists_beside all o k) (buffer_list o k); burst = One (torndown (buffer_list o k)) })
+
+  emptied_so : (k : Buffer) → o.buffers ≡ true → Meet plan v hosts (offered_before plan (suc phase)) (marked as_left done (marked (so Opened) (o ∷ left) before)) → Emptied k
+  emptied_so k has meet =
+      let lists : Assembly = lists_beside all o k in
+      let h : HostSeen = ending (AwaitsEmpty place k) lists in
+      let handle : ℕ = buffer_list o k in
+      let known : by_relid hosts o.relid ≡ Some (so Opened o) = stand_at hosts (offered_before plan (suc phase)) as_left done o (marked (so Opened) (o ∷ left) before) (so Opened o) meet.stand fact.fits.named fact.known fact.done_apart (marked_here (so Opened) o left before) in
+      let mine : is_list_of k o.relid handle (closing_at plan phase place) ≡ true = ap (is_list_of k o.relid handle) (closing_here plan phase place done o left at) ∙ (λ i. same o.relid i && same handle i) in
+      let with_wait : HostWait → HostTurn = λ w. record (at_rest h) { awaits = w; lists = without lists handle; burst = One (torndown handle) } in
+      record {
+        hears = ap (on_teardown h o.relid handle) known
+            ∙ ap (λ b. if b then tears_live h o.relid handle (so Opened o) else Err (Gpadl (Handle handle))) (buffer_live plan phase place done o left k planned at has)
+            ∙ ap (λ b. if b then Ok (empties_one h o.relid handle) else teardown_by h o.relid handle (so Opened o) (row_of (so Opened o) TeardownSeen)) (buffer_known plan phase place done o left k at has)
+            ∙ ap (λ b. Ok (with_wait (if b then emptied_next place k else AwaitsEmpty place k))) mine;
+      }
+
+  pub step_empties : (k : Buffer) → o.rescinded ≡ false → o.buffers ≡ true → Meet plan v hosts (offered_before plan (suc phase)) (marked as_left done (marked (so Opened) (o ∷ left) before)) → HostStep plan (ending (AwaitsEmpty place k) (lists_beside all o k)) [] (teardown_buffer o k) []
+  step_empties Send closed has meet =
+      let h : HostSeen = ending (AwaitsEmpty place Send) all in
+      let answer : Msg = torndown (buffer_list o Send) in
+      let back = sym here in
+      record {
+        turn = record (at_rest h) { awaits = AwaitsEmpty place Receive; lists = (without all (buffer_list o Send)); burst = One answer };
+        hears = (emptied_so Send has meet).hears;
+        tried_then = [];
+        pieces_then = [];
+        goes = empties v hosts phase place done o left Receive at closed has meet;
+        says = λ sent e.
+            let later : List Msg = host_from plan (suc phase) in
+            ap (λ os. emptied_left Send os ++ later) here ∙ ap (λ os. answer ∷ (emptied_left Receive os ++ later)) back ∙ ap (λ s. s ++ (emptied_left Receive (drop place (closing_of plan phase)) ++ later)) (sym e);
+        heard = ap (λ os. tears_left Send os ++ guest_from plan (suc phase)) here ∙ ap (λ os. (teardown_buffer o Send) ∷ (tears_left Receive os ++ guest_from plan (suc phase))) back;
+      }
+  step_empties Receive closed has meet =
+      let h : HostSeen = ending (AwaitsEmpty place Receive) (without all (buffer_list o Send)) in
+      let gone : Assembly = without (without all (buffer_list o Send)) (buffer_list o Receive) in
+      let both : gone ≡ without_buffers all o = ap (λ b. if b then gone else all) (sym has) in
+      let answer : Msg = torndown (buffer_list o Receive) in
+      let back = sym here in
+      record {
+        turn = record (at_rest h) { awaits = AwaitsClose place; lists = gone; burst = One answer };
+        hears = (emptied_so Receive has meet).hears;
+        tried_then = [];
+        pieces_then = [];
+        goes = subst (λ l. HostStands plan (Some (PhaseEnd phase)) (AwaitsClose place) (Some v) hosts l [] []) (sym both) (closes v hosts phase place done o left at closed meet);
+        says = λ sent e.
+            let later : List Msg = host_from plan (suc phase) in
+            ap (λ os. emptied_left Receive os ++ later) here ∙ ap (λ os. answer ∷ (torn_left os ++ later)) back ∙ ap (λ s. s ++ (torn_left (drop place (closing_of plan phase)) ++ later)) (sym e);
+        heard = ap (λ os. tears_left Receive os ++ guest_from plan (suc phase)) here ∙ ap (λ os. (teardown_buffer o Receive) ∷ (closes_left os ++ guest_from plan (suc phase))) back;
+      }
+
+  -- GPADL_TEARDOWN: a first channel is done with then
+  step_tears_first : o.rescinded ≡ false → is_sub o ≡ false → Meet plan v hosts (offered_before plan (suc phase)) (marked as_left done (marked (so Closing) (o ∷ []) base)) → HostStep plan (ending (AwaitsTeardown place) (without_buffers all o)) [] (teardown o) []
+  step_tears_first closed is_first meet =
+      let os : List Opening = phase_of plan phase in
+      let lists : Assembly = without_buffers (lists_but done os) o in
+      let h : HostSeen = ending (AwaitsTeardown place) lists in
+      let m : Msg = teardown o in
+      let count : ℕ = offered_before plan (suc phase) in
+      let later : HostNext = next_end hosts (place + 1) (closing_at plan phase (place + 1)) in
+      let after : List ChanState = slice_set hosts (o.relid - 1) (as_left o) in
+      let turn_with : ChanState → Assembly → HostNext → HostTurn = λ now lists next. goes_next (record (at_rest h) { channels = slice_set hosts (o.relid - 1) now; lists = lists }) (Some (torndown o.gpadl)) next in
+      let turn : HostTurn = turn_with (as_left o) (lists_but (done ++ o ∷ []) os) later in
+      let known : by_relid hosts o.relid ≡ Some (so Closing o) = stand_at hosts count as_left done o (marked (so Closing) (o ∷ []) base) (so Closing o) meet.stand fact.fits.named fact.known fact.done_apart (marked_here (so Closing) o [] base) in
+      let here_is = closing_here plan phase place done o left at in
+      let taken : HostNext = record { awaits = AwaitsRelease place; rescinds = wants_rescind o (Some (so Closed o)) } in
+      let goes : torn_for h place o.relid (so Closed o) (closing_at plan phase place) ≡ later =
+      ap (torn_for h place o.relid (so Closed o)) here_is
+      ∙ ap (λ b. if b && is_sub o then taken else (if is_of o.relid (closing_at plan phase place) then later else stays h)) (same o.relid)
+      ∙ ap (λ b. if b then taken else (if is_of o.relid (closing_at plan phase place) then later else stays h)) is_first
+      ∙ ap (λ b. if b then later else stays h) (ap (is_of o.relid) here_is ∙ same o.relid) in
+      let rings = rings_known plan phase place done o left planned at in
+      let stood : Stand after count (marked as_left (done ++ o ∷ []) base) =
+      stand_join hosts count as_left done o (marked (so Closing) (o ∷ []) base) base meet.stand fact.fits.named fact.known fact.done_apart (λ q off. sym (marked_there (so Closing) o [] base q off)) in
+      let next = next_is plan hosts phase place as_left (so Closing) (so Opened) done o left before planned at meet.stand in
+      let ends = host_goes plan after hosts phase (place + 1) (done ++ o ∷ []) left planned at.in_plan (ends_more plan phase place done o left at) (ends_place plan phase place done o left at) stood next in
+      let on = ends_so plan v after phase (place + 1) (done ++ o ∷ []) left later at.in_plan (ends_more plan phase place done o left at) (ends_place plan phase place done o left at) ends in
+      record {
+        turn = turn;
+        hears = ap (on_teardown h o.relid o.gpadl) known
+            ∙ ap (λ b. if b then tears_live h o.relid o.gpadl (so Closing o) else Err (Gpadl (Handle o.gpadl))) (still_live plan phase place done o left planned at)
+            ∙ ap (λ b. if b then Ok (empties_one h o.relid o.gpadl) else Ok (turn_with (so Closed o) (without lists o.gpadl) (torn_for h place o.relid (so Closed o) (closing_at plan phase place)))) rings
+            ∙ (λ i. Ok (turn_with ((sym (ap (λ b. so (end_state b) o) (ap (λ b. b || is_sub o) closed ∙ is_first))) i) ((let_go done o os) i) (goes i)));
+        tried_then = [];
+        pieces_then = [];
+        goes = host_stands_so plan phase v (Some (PhaseEnd phase)) after (lists_but (done ++ o ∷ []) os) later (host_next_awaits (place + 1) left) (marked as_left (done ++ o ∷ []) (host_next_stands (vps_before plan (suc phase)) left before)) (lists_but (host_next_done (done ++ o ∷ []) left) os) (host_next_sends left) ends
+            (host_next plan v (rescinded_among after later.rescinds) phase (place + 1) (done ++ o ∷ []) left planned at.in_plan (ends_more plan phase place done o left at) (ends_place plan phase place done o left at) (record { agreed = meet.agreed; stand = ends.host }));
+        says = λ sent sends.
+            ap (λ os. torn_left os ++ host_from plan (suc phase)) here
+            ∙ ap (λ b. torndown o.gpadl ∷ (((if b then rescind o.relid ∷ [] else []) ++ flat_map host_closes left) ++ host_from plan (suc phase))) is_first ∙ on.says (Some (torndown o.gpadl)) sent sends;
+        heard =
+            let rest : List Msg = guest_from plan (suc phase) in
+            ap (λ os. tears_down os ++ rest) here ∙ ap (λ b. m ∷ (((if b then release o.relid ∷ [] else []) ++ flat_map guest_closes left) ++ rest)) is_first ∙ ap (λ xs. m ∷ (xs ++ rest)) on.heard;
+      }
+
+  -- a sub-channel is rescinded then
+  step_tears_sub : o.rescinded ≡ false → is_sub o ≡ true → Meet plan v hosts (offered_before plan (suc phase)) (marked as_left done (marked (so Closing) (o ∷ []) base)) → HostStep plan (ending (AwaitsTeardown place) (without_buffers all o)) [] (teardown o) []
+  step_tears_sub closed sub meet =
+      let os : List Opening = phase_of plan phase in
+      let lists : Assembly = without_buffers (lists_but done os) o in
+      let h : HostSeen = ending (AwaitsTeardown place) lists in
+      let m : Msg = teardown o in
+      let count : ℕ = offered_before plan (suc phase) in
+      let taken : HostNext = record { awaits = AwaitsRelease place; rescinds = wants_rescind o (Some (so Closed o)) } in
+      let once : List ChanState = slice_set hosts (o.relid - 1) (so Closed o) in
+      let after : List ChanState = slice_set once (o.relid - 1) (so IsRescinded o) in
+      let turn_with : Assembly → HostNext → HostTurn = λ lists next. goes_next (record (at_rest h) { channels = once; lists = lists }) (Some (torndown o.gpadl)) next in
+      let whole : Assembly → HostTurn = λ lists. record { awaits = AwaitsRelease place; version = Some v; channels = after; lists = lists; burst = Two (torndown o.gpadl) (rescind o.relid) } in
+      let turn : HostTurn = whole (lists_but (done ++ o ∷ []) os) in
+      let known : by_relid hosts o.relid ≡ Some (so Closing o) = stand_at hosts count as_left done o (marked (so Closing) (o ∷ []) base) (so Closing o) meet.stand fact.fits.named fact.known fact.done_apart (marked_here (so Closing) o [] base) in
+      let later : HostNext = next_end hosts (place + 1) (closing_at plan phase (place + 1)) in
+      let goes : torn_for h place o.relid (so Closed o) (closing_at plan phase place) ≡ taken =
+      ap (torn_for h place o.relid (so Closed o)) (closing_here plan phase place done o left at)
+      ∙ ap (λ b. if b && is_sub o then taken else (if is_of o.relid (closing_at plan phase place) then later else stays h)) (same o.relid)
+      ∙ ap (λ b. if b then taken else (if is_of o.relid (closing_at plan phase place) then later else stays h)) sub in
+      let rings = rings_known plan phase place done o left planned at in
+      let closed_so : Stand once count (marked as_left done (marked (so Closed) (o ∷ []) base)) =
+      stand_mark hosts count as_left (so Closed) done o (marked (so Closing) (o ∷ []) base) base meet.stand fact.fits.named fact.known fact.done_apart (λ q off. sym (marked_there (so Closing) o [] base q off)) in
+      let stood : Stand after count (marked as_left done (marked (so IsRescinded) (o ∷ []) base)) =
+      stand_mark once count as_left (so IsRescinded) done o (marked (so Closed) (o ∷ []) base) base closed_so fact.fits.named fact.known fact.done_apart (λ q off. sym (marked_there (so Closed) o [] base q off)) in
+      record {
+        turn = turn;
+        hears = ap (on_teardown h o.relid o.gpadl) known
+            ∙ ap (λ b. if b then tears_live h o.relid o.gpadl (so Closing o) else Err (Gpadl (Handle o.gpadl))) (still_live plan phase place done o left planned at)
+            ∙ ap (λ b. if b then Ok (empties_one h o.relid o.gpadl) else Ok (turn_with (without lists o.gpadl) (torn_for h place o.relid (so Closed o) (closing_at plan phase place)))) rings
+            ∙ ap (λ n. Ok (turn_with (without lists o.gpadl) n)) goes ∙ ap (λ l. Ok (whole l)) (let_go_again done o os);
+        tried_then = [];
+        pieces_then = [];
+        goes = takes_back v after phase place done o left at (ap (λ b. b || is_sub o) closed ∙ sub) (record { agreed = meet.agreed; stand = stood });
+        says = λ sent e.
+            ap (λ os. torn_left os ++ host_from plan (suc phase)) here
+            ∙ ap (λ b. torndown o.gpadl ∷ (((if b then rescind o.relid ∷ [] else []) ++ flat_map host_closes left) ++ host_from plan (suc phase))) sub
+            ∙ ap (λ os. torndown o.gpadl ∷ rescind o.relid ∷ (flat_map host_closes os ++ host_from plan (suc phase))) (sym (ends_behind plan phase place done o left at))
+            ∙ ap (λ s. s ++ (flat_map host_closes (drop (suc place) (closing_of plan phase)) ++ host_from plan (suc phase))) (sym e);
+        heard =
+            let rest : List Msg = guest_from plan (suc phase) in
+            ap (λ os. tears_down os ++ rest) here ∙ ap (λ b. m ∷ (((if b then release o.relid ∷ [] else []) ++ flat_map guest_closes left) ++ rest)) sub ∙ ap (λ os. m ∷ (gives_one os ++ rest)) (sym here);
+      }
+
+  pub step_tears : o.rescinded ≡ false → Meet plan v hosts (offered_before plan (suc phase)) (marked as_left done (marked (so Closing) (o ∷ []) base)) → HostStep plan (ending (AwaitsTeardown place) (without_buffers all o)) [] (teardown o) []
+  step_tears closed meet =
+      by_test {P = HostStep plan (ending (AwaitsTeardown place) (without_buffers all o)) [] (teardown o) []} (is_sub o)
+      (λ e. step_tears_sub closed e meet)
+      (λ e. step_tears_first closed e meet)
+
+  -- RELID_RELEASED
+  pub step_releases : ends_given_back o ≡ true → Meet plan v hosts (offered_before plan (suc phase)) (marked as_left done (marked (so IsRescinded) (o ∷ []) base)) → HostStep plan (ending (AwaitsRelease place) (lists_but (done ++ o ∷ []) (phase_of plan phase))) [] (release o.relid) []
+  step_releases gone meet =
+      let h : HostSeen = ending (AwaitsRelease place) (lists_but (done ++ o ∷ []) (phase_of plan phase)) in
+      let later : HostNext = next_end hosts (place + 1) (closing_at plan phase (place + 1)) in
+      let after : List ChanState = slice_set hosts (o.relid - 1) (as_left o) in
+      let turn_with : ChanState → HostNext → HostTurn = λ now next. goes_next (record (at_rest h) { channels = slice_set hosts (o.relid - 1) now }) None next in
+      let turn : HostTurn = turn_with (as_left o) later in
+      let known : by_relid hosts o.relid ≡ Some (so IsRescinded o) = stand_at hosts (offered_before plan (suc phase)) as_left done o (marked (so IsRescinded) (o ∷ []) base) (so IsRescinded o) meet.stand fact.fits.named fact.known fact.done_apart (marked_here (so IsRescinded) o [] base) in
+      let mine : is_of o.relid (closing_at plan phase place) ≡ true = ap (is_of o.relid) (closing_here plan phase place done o left at) ∙ same o.relid in
+      let stood : Stand after (offered_before plan (suc phase)) (marked as_left (done ++ o ∷ []) base) =
+      stand_join hosts (offered_before plan (suc phase)) as_left done o (marked (so IsRescinded) (o ∷ []) base) base meet.stand fact.fits.named fact.known fact.done_apart (λ q off. sym (marked_there (so IsRescinded) o [] base q off)) in
+      let next = next_is plan hosts phase place as_left (so IsRescinded) (so Opened) done o left before planned at meet.stand in
+      let ends = host_goes plan after hosts phase (place + 1) (done ++ o ∷ []) left planned at.in_plan (ends_more plan phase place done o left at) (ends_place plan phase place done o left at) stood next in
+      let on = ends_so plan v after phase (place + 1) (done ++ o ∷ []) left later at.in_plan (ends_more plan phase place done o left at) (ends_place plan phase place done o left at) ends in
+      record {
+        turn = turn;
+        hears = ap (on_release h o.relid) known ∙ (λ i. Ok (turn_with ((sym (ap (λ b. so (end_state b) o) gone)) i) (if mine i then later else stays h)));
+        tried_then = [];
+        pieces_then = [];
+        goes = host_stands_so plan phase v (Some (PhaseEnd phase)) after (lists_but (done ++ o ∷ []) (phase_of plan phase)) later (host_next_awaits (place + 1) left) (marked as_left (done ++ o ∷ []) (host_next_stands (vps_before plan (suc phase)) left before)) (lists_but (host_next_done (done ++ o ∷ []) left) (phase_of plan phase)) (host_next_sends left) ends
+            (host_next plan v (rescinded_among after later.rescinds) phase (place + 1) (done ++ o ∷ []) left planned at.in_plan (ends_more plan phase place done o left at) (ends_place plan phase place done o left at) (record { agreed = meet.agreed; stand = ends.host }));
+        says = λ sent sends. ap (λ os. flat_map host_closes os ++ (host_from plan (suc phase))) (ends_behind plan phase place done o left at) ∙ on.says None sent sends;
+        heard = ap (λ os. gives_one os ++ guest_from plan (suc phase)) (ends_left plan phase place done (o ∷ left) at.closing_is at.place_is) ∙ ap (λ xs. (release o.relid) ∷ (xs ++ guest_from plan (suc phase))) on.heard;
+      }
 
 -- UNLOAD
 pub step_leaves : (plan : BusPlan) (logs : Logs) (v : Version) (hosts : List ChanState) → Meet plan v hosts (offered_before plan (length plan.phases)) (host_before (vps_before plan (length plan.phases)) plan (length plan.phases)) → HostStep plan (a_host plan logs (Some Unload) AwaitsUnload (Some v) hosts (live_ones [])) [] farewell []
 step_leaves plan logs v hosts meet =
-    let h : HostSeen = a_host plan logs (Some Unload) AwaitsUnload (Some v) hosts (live_ones []) in
     record {
-      turn = on_unload h AwaitsUnload;
+      turn = on_unload (a_host plan logs (Some Unload) AwaitsUnload (Some v) hosts (live_ones [])) AwaitsUnload;
       hears = refl;
       tried_then = [];
       pieces_then = [];

@@ -1,3 +1,4 @@
+pub mod Words
 pub mod NextOne
 pub mod Logs
 pub mod Marks

@@ -5,18 +5,13 @@ use Rattle.std.proofs.lemmas.Bool.{eq-eqb, eqb-true}
 use Rattle.std.proofs.lemmas.List.{append-nil}
 use Rattle.std.proofs.lemmas.List.Folds.{list_any-append}
 use Rattle.std.proofs.lemmas.List.Concat.{flat_map-cons}
-use Rattle.gpadl.specs.Assembly.{Assembly, is_live}
-use Rattle.control_model.specs.declared.opening.Opening.{Opening}
-use Rattle.control_model.specs.declared.buffer.Buffer.{Buffer}
-use Rattle.control_model.specs.declared.buffer.Buffer.TheVariants.{Receive, Send}
-use Rattle.control_model.specs.declared.host_wait.HostWait.{HostWait}
 use Rattle.control_model.specs.Plan.{BusPlan, buffer_list, is_buffer, is_buffer_in, is_sub, behind_subs, in_closing_order, IsPlan, phase_of, closing_of}
-use Rattle.contact.specs.declared.part.Part.TheVariants.{PhaseEnd}
 use Rattle.control_model.specs.Host.{without, without_buffers, without_all}
 use Rattle.control_model.specs.HostAt.{live_ones, lists_but, lists_beside}
 use Rattle.control_model.specs.Stand.{EndsAt, buffer_handles, handles_of, handles, has_list}
 use Rattle.std.proofs.Common.{Some}
-use Rattle.control_laws.proofs.Marks.{by_test, same, differ}
+use Rattle.control_laws.proofs.Words.{Assembly, is_live, Opening, Buffer, Receive, Send, PhaseEnd}
+use Rattle.control_laws.proofs.Marks.{by_test, same, differ, or_false, or_true, and_none}
 use Rattle.control_laws.proofs.Cutting.{all_weaker}
 use Rattle.control_laws.proofs.Plans.{Apart, end_facts}
 
@@ -41,14 +36,6 @@ turned : (a b : ℕ) → (a == b) ≡ (b == a)
 turned a b = by_test {P = (a == b) ≡ (b == a)} (a == b)
     (λ e. e ∙ sym (eq-eqb b a (sym (eqb-true a b e))))
     (λ e. e ∙ sym (differ b a (λ is. let wrong : true ≡ false = sym (eq-eqb a b (sym is)) ∙ e in absurd (cc))))
-
-or_false : (a : Bool) → (a || false) ≡ a
-or_false true = refl
-or_false false = refl
-
-or_true : (a : Bool) → (a || true) ≡ true
-or_true true = refl
-or_true false = refl
 
 three_off : (a b c : Bool) → ((not c && not b) && not a) ≡ not (a || (b || c))
 three_off true true true = refl
@@ -81,14 +68,10 @@ module _ (o : Opening) where
   gone_by live false none =
       ap live_ones (filter_like ring_off has_off (λ h. ap not (turned h o.gpadl ∙ sym (ap (λ c. (o.gpadl == h) || (c && ((o.gpadl + 1 == h) || (o.gpadl + 2 == h)))) none ∙ or_false (o.gpadl == h)))) live)
   gone_by live true has =
-      let inner : filter receive_off (filter send_off live) ≡ filter (λ h. send_off h && receive_off h) live = filter_twice receive_off send_off live in
       let outer = filter_twice ring_off (λ h. send_off h && receive_off h) live in
-      ap live_ones (ap (filter ring_off) inner ∙ outer ∙ filter_like (λ h. (send_off h && receive_off h) && ring_off h) has_off
+      ap live_ones (ap (filter ring_off) (filter_twice receive_off send_off live) ∙ outer ∙ filter_like (λ h. (send_off h && receive_off h) && ring_off h) has_off
       (λ h.
-      let a = turned h o.gpadl in
-      let b = turned h (o.gpadl + 1) in
-      let c = turned h (o.gpadl + 2) in
-      (λ i. (not (c i) && not (b i)) && not (a i)) ∙ three_off (o.gpadl == h) (o.gpadl + 1 == h) (o.gpadl + 2 == h)
+      (λ i. (not ((turned h (o.gpadl + 2)) i) && not ((turned h (o.gpadl + 1)) i)) && not ((turned h o.gpadl) i)) ∙ three_off (o.gpadl == h) (o.gpadl + 1 == h) (o.gpadl + 2 == h)
       ∙ sym (ap (λ d. not ((o.gpadl == h) || (d && ((o.gpadl + 1 == h) || (o.gpadl + 2 == h))))) has)) live)
 
   gone : (live : List ℕ) → without_all (live_ones live) o ≡ live_ones (filter has_off live)
@@ -135,21 +118,16 @@ own_handles o h true has =
 pub live_is : (os : List Opening) (h : ℕ) → is_live (handles os) h ≡ list_any (λ p. has_list p h) os
 live_is [] h = refl
 live_is (o ∷ os) h =
-    let mine = own_handles o h o.buffers refl in
-    let rest = live_is os h in
-    ap (λ hs. is_live hs h) (flat_map-cons handles_of o os) ∙ list_any-append (λ x. x == h) (handles_of o) (handles os) ∙ (λ i. ((o.gpadl == h) || mine i) || rest i)
+    ap (λ hs. is_live hs h) (flat_map-cons handles_of o os) ∙ list_any-append (λ x. x == h) (handles_of o) (handles os) ∙ (λ i. ((o.gpadl == h) || (own_handles o h o.buffers refl) i) || (live_is os h) i)
 
 -- one that passes a test is live
 live_kept : (f : ℕ → Bool) (g : ℕ) (hs : List ℕ) → is_live hs g ≡ true → f g ≡ true → is_live (filter f hs) g ≡ true
 live_kept f g [] live kept = live
 live_kept f g (h ∷ hs) live kept = by_test {P = is_live (filter f (h ∷ hs)) g ≡ true} (h == g)
     (λ e.
-    let here : f h ≡ true = ap f (eqb-true h g e) ∙ kept in
-    ap (λ b. is_live (cond b (h ∷ filter f hs) (filter f hs)) g) here ∙ ap (λ b. b || is_live (filter f hs) g) e)
+    ap (λ b. is_live (cond b (h ∷ filter f hs) (filter f hs)) g) (ap f (eqb-true h g e) ∙ kept) ∙ ap (λ b. b || is_live (filter f hs) g) e)
     (λ e.
-    let more : is_live hs g ≡ true = sym (ap (λ b. b || is_live hs g) e) ∙ live in
-    let rest = live_kept f g hs more kept in
-    skip (f h) rest e)
+    skip (f h) (live_kept f g hs (sym (ap (λ b. b || is_live hs g) e) ∙ live) kept) e)
   where
     skip : (b : Bool) → is_live (filter f hs) g ≡ true → (h == g) ≡ false → is_live (cond b (h ∷ filter f hs) (filter f hs)) g ≡ true
     skip true rest e = ap (λ c. c || is_live (filter f hs) g) e ∙ rest
@@ -186,8 +164,7 @@ live_still : (plan : BusPlan) (phase place : ℕ) (done : List Opening) (o : Ope
 live_still plan phase place done o left h planned at mine =
     let os : List Opening = phase_of plan phase in
     let test : Opening → Bool = λ p. has_list p h in
-    let fact = end_facts plan phase place done o left planned at in
-    let off = all_weaker (λ p. Apart o p) (λ p. has_list p h ≡ false) (λ p apart. apart h mine) done fact.done_lists in
+    let off = all_weaker (λ p. Apart o p) (λ p. has_list p h ≡ false) (λ p apart. apart h mine) done (end_facts plan phase place done o left planned at).done_lists in
     live_kept (keeps done) h (handles os) (live_is os h ∙ sym (any_closing test os) ∙ ap (list_any test) at.closing_is ∙ any_mid test done o left mine) (ap not (none_has h done off))
 
 pub own_ring : (o : Opening) → has_list o o.gpadl ≡ true
@@ -225,8 +202,7 @@ buffer_live plan phase place done o left Receive planned at has =
 pub buffer_known : (plan : BusPlan) (phase place : ℕ) (done : List Opening) (o : Opening) (left : List Opening) (k : Buffer) → EndsAt plan phase place done o left → o.buffers ≡ true → is_buffer_in plan (Some (PhaseEnd phase)) o.relid (buffer_list o k) ≡ true
 buffer_known plan phase place done o left k at has =
     let test : Opening → Bool = λ p. (p.relid == o.relid) && is_buffer p (buffer_list o k) in
-    let own = own_buffer o k has in
-    sym (any_closing test (phase_of plan phase)) ∙ ap (list_any test) at.closing_is ∙ any_mid test done o left (λ i. same o.relid i && own i)
+    sym (any_closing test (phase_of plan phase)) ∙ ap (list_any test) at.closing_is ∙ any_mid test done o left (λ i. same o.relid i && (own_buffer o k has) i)
 
 off_second : (a b c : Bool) → (b || c) ≡ false → (a && c) ≡ false
 off_second true b c off = right b c off
@@ -244,13 +220,9 @@ rings_known plan phase place done o left planned at =
     let behind = none_in left (all_weaker (λ p. Apart o p) (λ p. has_list p o.gpadl ≡ false) (λ p apart. apart o.gpadl (own_ring o)) left fact.left_lists) in
     let one = differ (o.gpadl + 1) o.gpadl (λ e. absurd (omega (arith, e))) in
     let two = differ (o.gpadl + 2) o.gpadl (λ e. absurd (omega (arith, e))) in
-    let own : test o ≡ false = (λ i. (o.relid == o.relid) && (o.buffers && (one i || two i))) ∙ ap (λ b. (o.relid == o.relid) && b) (none_and o.buffers) ∙ none_and (o.relid == o.relid) in
+    let own : test o ≡ false = (λ i. (o.relid == o.relid) && (o.buffers && (one i || two i))) ∙ ap (λ b. (o.relid == o.relid) && b) (and_none o.buffers) ∙ and_none (o.relid == o.relid) in
     sym (any_closing test (phase_of plan phase)) ∙ ap (list_any test) at.closing_is ∙ list_any-append test done (o ∷ left) ∙ (λ i. before i || (own i || behind i))
   where
-    none_and : (b : Bool) → (b && false) ≡ false
-    none_and true = refl
-    none_and false = refl
-
     none_in : (os : List Opening) → AllByRecursion (λ p. has_list p o.gpadl ≡ false) os → list_any (λ p. (p.relid == o.relid) && is_buffer p o.gpadl) os ≡ false
     none_in [] off = refl
     none_in (p ∷ os) off = let rest = none_in os off.1 in let here = off_second (p.relid == o.relid) (p.gpadl == o.gpadl) (is_buffer p o.gpadl) off.0 in (λ i. here i || rest i)
@@ -265,6 +237,5 @@ none_kept f (h ∷ hs) off =
 pub none_live : (plan : BusPlan) (phase : ℕ) (done : List Opening) → closing_of plan phase ≡ done ++ [] → lists_but done (phase_of plan phase) ≡ live_ones []
 none_live plan phase done is =
     let os : List Opening = phase_of plan phase in
-    let full : in_closing_order os ≡ done = is ∙ append-nil done in
-    ap (λ ds. lists_but ds os) (sym full)
+    ap (λ ds. lists_but ds os) (sym (is ∙ append-nil done))
     ∙ ap live_ones (none_kept (keeps (in_closing_order os)) (handles os) (λ h live. ap not (any_closing (λ p. has_list p h) os ∙ sym (live_is os h) ∙ live)))

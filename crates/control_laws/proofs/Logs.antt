@@ -1,13 +1,6 @@
 -- What a side has sent and was fed, and a side of a plan.
 use Rattle.std.proofs.Common.{List, Option}
-use Rattle.contact.specs.declared.version.Version.{Version}
-use Rattle.contact.specs.declared.part.Part.{Part}
-use Rattle.chan_state.specs.declared.chan_state.ChanState.{ChanState}
-use Rattle.gpadl.specs.Assembly.{Assembly}
-use Rattle.vmbus_msg.specs.declared.msg.Msg.{Msg}
-use Rattle.control_model.specs.declared.channel.Channel.{Channel}
-use Rattle.control_model.specs.declared.guest_wait.GuestWait.{GuestWait}
-use Rattle.control_model.specs.declared.host_wait.HostWait.{HostWait}
+use Rattle.control_laws.proofs.Words.{Version, Part, ChanState, Assembly, Msg, Channel, GuestWait, HostWait}
 use Rattle.control_model.specs.Plan.{BusPlan}
 use Rattle.control_model.specs.Guest.{GuestSeen}
 use Rattle.control_model.specs.Host.{HostSeen}

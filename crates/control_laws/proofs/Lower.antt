@@ -3,8 +3,7 @@ use Rattle.std.proofs.Common.{◌≡◌, ◌≢◌, ℕ, ◌<◌, ◌≤◌, ◌
 use Rattle.std.specs.List.{AllByRecursion, list_any}
 use Rattle.std.proofs.lemmas.Bool.{eqb-true}
 use Rattle.std.proofs.lemmas.Bool.Decides.{nat_tests}
-use Rattle.contact.specs.declared.version.Version.{Version}
-use Rattle.contact.specs.Versions.{versions, IsVersion}
+use Rattle.control_laws.proofs.Words.{Version, versions, IsVersion}
 use Rattle.control_model.specs.Plan.{BusPlan, IsPlan}
 use Rattle.control_model.specs.Channels.{first_below, version_below, accepts}
 use Rattle.control_model.specs.Stand.{Tries}

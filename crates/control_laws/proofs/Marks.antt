@@ -1,10 +1,10 @@
 -- Channels that are marked, and lists of channels that stand so.
-use Rattle.std.proofs.Common.{◌≡◌, ◌≢◌, ◌∙◌, ℕ, zero, suc, ◌+◌, ◌-◌, ◌<◌, ◌≤◌, ◌==◌, nat_le, Bool, true, false, List, [], ◌∷◌, ◌++◌, length, replicate, slice_get, slice_set, Some, if◌then◌else◌, refl, sym, ap, subst, ⊎_elim, length-append, arith}
+use Rattle.std.proofs.Common.{◌||◌, ◌&&◌, ◌≡◌, ◌≢◌, ◌∙◌, ℕ, zero, suc, ◌+◌, ◌-◌, ◌<◌, ◌≤◌, ◌==◌, nat_le, Bool, true, false, List, [], ◌∷◌, ◌++◌, length, replicate, slice_get, slice_set, Some, if◌then◌else◌, refl, sym, ap, subst, ⊎_elim, length-append, arith}
 use Rattle.std.specs.List.{AllByRecursion}
 use Rattle.std.proofs.lemmas.Bool.{eq-eqb, eqb-true, cases_eq}
 use Rattle.std.proofs.lemmas.Bool.Decides.{nat_tests}
 use Rattle.std.proofs.lemmas.List.{length-set, length-replicate}
-use Rattle.control_model.specs.declared.opening.Opening.{Opening}
+use Rattle.control_laws.proofs.Words.{Opening}
 use Rattle.control_model.specs.Channels.{by_relid}
 use Rattle.control_model.specs.Stand.{marked, Stand}
 
@@ -14,6 +14,18 @@ by_place a b f g = ⊎_elim f g (cases_eq a b)
 pub by_test : {P : Type 0} (b : Bool) → (b ≡ true → P) → (b ≡ false → P) → P
 by_test true f g = f refl
 by_test false f g = g refl
+
+pub or_true : (a : Bool) → (a || true) ≡ true
+or_true true = refl
+or_true false = refl
+
+pub or_false : (a : Bool) → (a || false) ≡ a
+or_false true = refl
+or_false false = refl
+
+pub and_none : (a : Bool) → (a && false) ≡ false
+and_none true = refl
+and_none false = refl
 
 pub same : (n : ℕ) → (n == n) ≡ true
 same n = eq-eqb n n refl
@@ -121,11 +133,9 @@ get_same (suc n) (suc i) x less = get_same n i x (omega (arith, less))
 
 pub stand_add : {X : Type 0} (channels : List X) (count n : ℕ) (stands : ℕ → X) (x : X) → Stand channels count stands → ((q : ℕ) → count < q → q ≤ count + n → stands q ≡ x) → Stand (channels ++ replicate n x) (count + n) stands
 stand_add channels count n stands x old offered =
-    let more = length-append channels (replicate n x) in
-    let new = length-replicate n x in
     let many = old.many in
     record {
-      many = omega (arith, more, new, many);
+      many = omega (arith, length-append channels (replicate n x), length-replicate n x, many);
       each = λ q one few. by_test {P = by_relid (channels ++ replicate n x) q ≡ Some (stands q)} (nat_le q count)
           (λ e.
           let within : q ≤ count = grind (arith, nat_tests, e) in

@@ -5,27 +5,9 @@ use Rattle.std.specs.List.{AllByRecursion, flat_map, position_from}
 use Rattle.std.proofs.lemmas.Bool.{eq-eqb}
 use Rattle.std.proofs.lemmas.List.{append-nil}
 use Rattle.std.proofs.lemmas.List.FromFn.{length-range_with_len}
-use Rattle.contact.specs.declared.version.Version.{Version}
-use Rattle.contact.specs.declared.part.Part.{Part}
-use Rattle.contact.specs.declared.part.Part.TheVariants.{PhaseStart}
-use Rattle.contact.specs.Versions.{answers_modify}
-use Rattle.chan_state.specs.declared.state.State.{State}
-use Rattle.chan_state.specs.declared.state.State.TheVariants.{Opened, Modifying}
-use Rattle.chan_state.specs.declared.event.Event.TheVariants.{WantModify}
-use Rattle.chan_state.specs.declared.chan_state.ChanState.{ChanState}
-use Rattle.gpadl.specs.Assembly.{Assembly}
+use Rattle.control_laws.proofs.Words.{Version, Part, PhaseStart, answers_modify, State, Opened, Modifying, WantModify, ChanState, Assembly, Msg, Opening, Channel, Change, Now, GuestWait, Modified, HostWait, AwaitsList, GuestTurn}
 use Rattle.gpadl.specs.Cut.{cut}
 use Rattle.gpadl.proofs.Cutting.{cuts_so}
-use Rattle.vmbus_msg.specs.declared.msg.Msg.{Msg}
-use Rattle.control_model.specs.declared.opening.Opening.{Opening}
-use Rattle.control_model.specs.declared.channel.Channel.{Channel}
-use Rattle.control_model.specs.declared.change.Change.{Change}
-use Rattle.control_model.specs.declared.change.Change.TheVariants.{Now}
-use Rattle.control_model.specs.declared.guest_wait.GuestWait.{GuestWait}
-use Rattle.control_model.specs.declared.guest_wait.GuestWait.TheVariants.{Nothing, Modified}
-use Rattle.control_model.specs.declared.host_wait.HostWait.{HostWait}
-use Rattle.control_model.specs.declared.host_wait.HostWait.TheVariants.{List as AwaitsList}
-use Rattle.control_model.specs.declared.guest_turn.GuestTurn.{GuestTurn}
 use Rattle.control_model.specs.Plan.{BusPlan, IsOpening, IsPlan, opening_at, list_pages, phase_of, vp_for}
 use Rattle.control_model.specs.Channels.{by_relid, lived, put_moved, move_at, move_all, changed}
 use Rattle.control_model.specs.Messages.{modify, modified, modify_one, pages_from, Sends}
@@ -43,12 +25,8 @@ use Rattle.control_laws.proofs.Closing.{Distinct}
 use Rattle.control_laws.proofs.Plans.{phase_has, facts, opening_from}
 use Rattle.control_laws.proofs.Vps.{marked_alike, before_alike, guest_alike, moved_all, moved_distinct, movers_are, answers_are, own_marked, marked_again, marked_over, distinct_front, position_at, position_none, guest_says, host_says, guest_rest, host_rest, host_says_none}
 use Rattle.control_laws.proofs.Next.{all_open, Turned, heard_so, pieces_by, pieces_of, HasFirst, cut_first}
-use Rattle.control_laws.proofs.Handles.{all_front}
 use Rattle.control_laws.proofs.Saying.{left_at, dials_more, opens_more, answers_plain}
-
-both : (P Q R : Opening → Type 0) → ((o : Opening) → P o → Q o → R o) → (os : List Opening) → AllByRecursion P os → AllByRecursion Q os → AllByRecursion R os
-both P Q R f [] p q = tt
-both P Q R f (o ∷ os) p q = (f o p.0 q.0, both P Q R f os p.1 q.1)
+use Rattle.control_laws.proofs.Cutting.{both, all_front}
 
 -- the state of a channel that the guest has moved
 abbrev moving : Bool → State
@@ -110,9 +88,8 @@ guest_moved plan guests phase answered planned in_plan stand =
     let count : ℕ = offered_before plan (suc phase) in
     let has = phase_has plan phase planned in_plan in
     let stands : ℕ → Channel = marked (guest_is vps Opened) os (guest_before vps plan phase) in
-    let apart = moved_distinct (λ o. o.relid) plan os has.relids in
     let opened : AllByRecursion (λ o. stands o.relid ≡ guest_is vps Opened o) ms = moved_all (λ o. stands o.relid ≡ guest_is vps Opened o) plan os (own_marked (guest_is vps Opened) os (guest_before vps plan phase) has.relids) in
-    let after = all_moved guests count stands vps answered ms stand opened (moved_all (Known count) plan os (phase_known plan phase planned in_plan)) apart in
+    let after = all_moved guests count stands vps answered ms stand opened (moved_all (Known count) plan os (phase_known plan phase planned in_plan)) (moved_distinct (λ o. o.relid) plan os has.relids) in
     let to_is : (ps : List Opening) → AllByRecursion (λ o. ups o.relid ≡ vp_for o) ps → AllByRecursion (λ o. guest_is ups (moving answered) o ≡ moves_to answered o) ps = λ ps all.
     both (λ o. ups o.relid ≡ vp_for o) (λ o. ups o.relid ≡ vp_for o) (λ o. guest_is ups (moving answered) o ≡ moves_to answered o) (λ o e f. guest_alike ups (λ relid. vp_for o) (moving answered) o.relid e o refl) ps all all in
     let alike : (q : ℕ) → marked (guest_is ups (moving answered)) ms (guest_opened plan phase) q ≡ marked (moves_to answered) ms stands q = λ q.
@@ -172,21 +149,18 @@ moves_on plan v guests phase awaits heard false ms planned in_plan agreed stand 
     let os : List Opening = phase_of plan phase in
     let after = subst (λ ns. Stand (move_all (changed guests heard) false (map move_of ns)) (offered_before plan (suc phase)) (guest_opened plan phase)) is
     (guest_stays plan (move_all (changed guests heard) false (map move_of (moved plan os))) phase planned in_plan (guest_moved plan (changed guests heard) phase false planned in_plan stand)) in
-    let none : host_moves plan os ≡ [] = ap (λ b. if b then map (λ (p : Opening). modified p.relid) (moved plan os) else []) (answers_are plan v planned agreed ∙ answers) in
     record {
       goes = GuestStarted v (move_all (changed guests heard) false (map move_of ms)) phase in_plan (record { agreed = agreed; stand = after });
       says = λ sent later e. ap (λ ns. guest_says ns ++ later) is ∙ ap (λ xs. xs ++ later) (sym (twice ms)) ∙ ap (λ s. s ++ later) (sym e);
-      heard = λ later. ap (λ xs. xs ++ later) none;
+      heard = λ later. ap (λ xs. xs ++ later) (ap (λ b. if b then map (λ (p : Opening). modified p.relid) (moved plan os) else []) (answers_are plan v planned agreed ∙ answers));
     }
 moves_on plan v guests phase awaits heard true [] planned in_plan agreed stand is answers =
-    let os : List Opening = phase_of plan phase in
     let after = subst (λ ns. Stand (move_all (changed guests heard) true (map move_of ns)) (offered_before plan (suc phase)) (marked (guest_is (vps_before plan (suc phase)) Modifying) ns (guest_opened plan phase))) is
     (guest_moved plan (changed guests heard) phase true planned in_plan stand) in
-    let none : host_moves plan os ≡ [] = ap (host_says plan) is ∙ host_says_none plan in
     record {
       goes = GuestStarted v (changed guests heard) phase in_plan (record { agreed = agreed; stand = after });
       says = λ sent later e. ap (λ ns. guest_says ns ++ later) is ∙ ap (λ s. s ++ later) (sym e);
-      heard = λ later. ap (λ xs. xs ++ later) none;
+      heard = λ later. ap (λ xs. xs ++ later) (ap (host_says plan) is ∙ host_says_none plan);
     }
 moves_on plan v guests phase awaits heard true (o ∷ ms) planned in_plan agreed stand is answers =
     let os : List Opening = phase_of plan phase in
@@ -205,13 +179,10 @@ lists_one : (plan : BusPlan) (v : Version) (guests : List Channel) (phase place 
 lists_one plan v guests phase place done o left awaits heard None at d meet =
     let os : List Opening = phase_of plan phase in
     let back = sym (left_at plan phase place done (o ∷ left) at.phase_is at.place_is) in
-    let none = ap count_dialed d in
-    let count : offered_by plan phase done (o ∷ left) ≡ offered_for plan phase done o left = omega (arith, none) in
+    let count : offered_by plan phase done (o ∷ left) ≡ offered_for plan phase done o left = omega (arith, ap count_dialed d) in
     record {
       goes = GuestLists v (changed guests heard) phase place done o left at (subst (λ n. Meet plan v (changed guests heard) n (marked (guest_is (vps_before plan phase) Opened) done (guest_before (vps_before plan phase) plan phase))) count meet);
-      says = λ sent later sends.
-          let whole = sym (cuts_so o.relid o.gpadl (pages_from o) sent sends) in
-          opens_more o left (guest_moves plan os ++ later) d ∙ (λ i. whole i ++ (opens_listed (back i) ++ (guest_moves plan os ++ later)));
+      says = λ sent later sends. opens_more o left (guest_moves plan os ++ later) d ∙ (λ i. (sym (cuts_so o.relid o.gpadl (pages_from o) sent sends)) i ++ (opens_listed (back i) ++ (guest_moves plan os ++ later)));
       heard = λ later. answers_plain o left (host_moves plan os ++ later) d ∙ ap (λ xs. answers_list xs ++ (host_moves plan os ++ later)) back;
     }
 lists_one plan v guests phase place done o left awaits heard (Some port) at d meet =
@@ -219,9 +190,7 @@ lists_one plan v guests phase place done o left awaits heard (Some port) at d me
     let back = sym (left_at plan phase place done (o ∷ left) at.phase_is at.place_is) in
     record {
       goes = GuestDials v (changed guests heard) phase place done o left at (ap is_some d) meet;
-      says = λ sent later sends.
-          let asks : dials o.dialed ≡ sent = ap dials d ∙ sym sends in
-          dials_more o left (guest_moves plan os ++ later) ∙ (λ i. asks i ++ (lists_dialed (back i) ++ (guest_moves plan os ++ later)));
+      says = λ sent later sends. dials_more o left (guest_moves plan os ++ later) ∙ (λ i. (ap dials d ∙ sym sends) i ++ (lists_dialed (back i) ++ (guest_moves plan os ++ later)));
       heard = λ later. ap (λ xs. host_opens_all xs ++ (host_moves plan os ++ later)) back;
     }
 
@@ -235,17 +204,15 @@ lists_from plan logs before v guests phase place done [] waited awaits heard pla
     let g : GuestSeen = a_guest plan logs before waited (Some v) guests in
     let channels : List Channel = changed guests heard in
     let count : ℕ = offered_before plan (suc phase) in
-    let full : os ≡ done = is ∙ append-nil done in
     let vps : ℕ → ℕ = vps_before plan phase in
     let stands : ℕ → Channel = marked (guest_is vps Opened) os (guest_before vps plan phase) in
-    let stand : Stand channels count stands = all_open plan channels (guest_is vps Opened) phase done (guest_before vps plan phase) in_plan full meet.stand in
+    let stand : Stand channels count stands = all_open plan channels (guest_is vps Opened) phase done (guest_before vps plan phase) in_plan (is ∙ append-nil done) meet.stand in
     let own = own_marked (guest_is vps Opened) os (guest_before vps plan phase) (phase_has plan phase planned in_plan).relids in
     let each : AllByRecursion (λ o. then_in g heard is_opened o ≡ true) os = both (λ o. stands o.relid ≡ guest_is vps Opened o) (Known count) (λ o. then_in g heard is_opened o ≡ true)
     (λ o so known. ap (in_state is_opened) (looks refl o.relid known.0 ∙ stand.each o.relid known.0 known.1 ∙ ap (λ c. Some c) so)) os own (phase_known plan phase planned in_plan) in
-    let opened = moved_all (λ o. then_in g heard is_opened o ≡ true) plan os each in
     let turn : List Opening → GuestTurn = λ ms. moves_with (heard_so awaits v heard) (answers_modify v.0) (map move_of ms) in
     subst (λ ms. ListsOn plan guests phase [] (turn (filter (then_in g heard is_opened) ms))) (sym (movers_are plan v phase planned meet.agreed))
-    (subst (λ ms. ListsOn plan guests phase [] (turn ms)) (sym (pass (then_in g heard is_opened) (moved plan os) opened))
+    (subst (λ ms. ListsOn plan guests phase [] (turn ms)) (sym (pass (then_in g heard is_opened) (moved plan os) (moved_all (λ o. then_in g heard is_opened o ≡ true) plan os each)))
     (moves_on plan v guests phase awaits heard (answers_modify v.0) (moved plan os) planned in_plan meet.agreed stand refl refl))
 lists_from plan logs before v guests phase place done (o ∷ left) waited awaits heard planned in_plan is at meet looks =
     lists_one plan v guests phase place done o left awaits heard o.dialed (record { in_plan = in_plan; phase_is = is; place_is = at }) refl meet
@@ -271,9 +238,8 @@ pub record MovesLeft (plan : BusPlan) (v : Version) (hosts : List ChanState) (ph
 pub moves_left : (plan : BusPlan) (v : Version) (hosts : List ChanState) (phase place : ℕ) (done left : List Opening) → phase < length plan.phases → moved plan (phase_of plan phase) ≡ done ++ left → place ≡ length done
     → Meet plan v hosts (offered_before plan (suc phase)) (host_moving plan phase done) → MovesLeft plan v hosts phase left (waits_move place (slice_get left 0))
 moves_left plan v hosts phase place done [] in_plan is at meet =
-    let all : done ≡ moved plan (phase_of plan phase) = sym (is ∙ append-nil done) in
     record {
-      goes = HostStarted v hosts phase in_plan (subst (λ ms. Meet plan v hosts (offered_before plan (suc phase)) (host_moving plan phase ms)) all meet);
+      goes = HostStarted v hosts phase in_plan (subst (λ ms. Meet plan v hosts (offered_before plan (suc phase)) (host_moving plan phase ms)) (sym (is ∙ append-nil done)) meet);
       says = λ later. ap (λ xs. xs ++ later) (host_says_none plan);
       hears = λ later. refl;
     }
@@ -296,14 +262,11 @@ waits_at : (plan : BusPlan) (v : Version) (hosts : List ChanState) (phase place 
     → Meet plan v hosts (offered_by plan phase done (o ∷ left)) (marked (host_is (vps_before plan phase) Opened) done (host_before (vps_before plan phase) plan phase)) → WaitsOn plan v hosts phase done (o ∷ left) (waits_one place dialed) (pieces_by o dialed)
 waits_at plan v hosts phase place done o left None planned at d meet =
     let os : List Opening = phase_of plan phase in
-    let fact = facts plan phase place done o left planned at in
-    let few = fact.fits.some_pages in
     let long = length-range_with_len o.first_page (list_pages o.ring_pages) in
     let list : List Msg = cut o.relid o.gpadl (pages_from o) in
-    let whole : HasFirst list = cut_first o.relid o.gpadl (pages_from o) (omega (arith, few, long)) in
+    let whole : HasFirst list = cut_first o.relid o.gpadl (pages_from o) (omega (arith, (facts plan phase place done o left planned at).fits.some_pages, long)) in
     let back = sym (left_at plan phase place done (o ∷ left) at.phase_is at.place_is) in
-    let none = ap count_dialed d in
-    let count : offered_by plan phase done (o ∷ left) ≡ offered_for plan phase done o left = omega (arith, none) in
+    let count : offered_by plan phase done (o ∷ left) ≡ offered_for plan phase done o left = omega (arith, ap count_dialed d) in
     record {
       goes = subst (HostStands plan (Some (PhaseStart phase)) (AwaitsList place) (Some v) hosts (live_ones (handles done)) []) (sym whole.is)
           (HostLists v hosts phase place done o left (live_ones (handles done)) whole.first whole.rest at
@@ -329,8 +292,7 @@ waits_from plan logs before v known hosts lists phase place done [] waited plann
     let vps : ℕ → ℕ = vps_before plan phase in
     let stand = all_open plan hosts (host_is vps Opened) phase done (host_before vps plan phase) in_plan full meet.stand in
     let there = moves_left plan v hosts phase 0 [] (moved plan os) in_plan refl refl (record { agreed = meet.agreed; stand = stand }) in
-    let back = sym (movers_are plan v phase planned meet.agreed) in
-    subst (λ ms. WaitsOn plan v hosts phase done [] (waits_move 0 (slice_get ms 0)) []) back (record {
+    subst (λ ms. WaitsOn plan v hosts phase done [] (waits_move 0 (slice_get ms 0)) []) (sym (movers_are plan v phase planned meet.agreed)) (record {
       goes = subst (λ ps. HostStands plan (Some (PhaseStart phase)) (waits_move 0 (slice_get (moved plan os) 0)) (Some v) hosts (live_ones (handles ps)) [] []) full there.goes;
       says = there.says;
       hears = there.hears;
@@ -378,11 +340,8 @@ pub answers_left : (plan : BusPlan) (v : Version) (guests : List Channel) (phase
     → answers_modify v.0 ≡ true → Meet plan v guests (offered_before plan (suc phase)) (marked (guest_is (vps_before plan (suc phase)) Modifying) left (guest_opened plan phase))
     → AnswersLeft plan v guests phase left (waits_answer (position_from test 0 (moved plan (phase_of plan phase))))
 answers_left plan v guests phase done [] test planned in_plan is tests answers meet =
-    let os : List Opening = phase_of plan phase in
     let none = answered_so plan guests phase done [] test planned in_plan is tests meet.stand in
-    let full : moved plan os ≡ done = is ∙ append-nil done in
-    let waits : waits_answer (position_from test 0 (moved plan os)) ≡ Nothing = ap (λ ms. waits_answer (position_from test 0 ms)) full ∙ ap waits_answer (position_none test 0 done none) in
-    subst (AnswersLeft plan v guests phase []) (sym waits) (record {
+    subst (AnswersLeft plan v guests phase []) (sym (ap (λ ms. waits_answer (position_from test 0 ms)) (is ∙ append-nil done) ∙ ap waits_answer (position_none test 0 done none))) (record {
       goes = GuestStarted v guests phase in_plan meet;
       says = λ later. refl;
       heard = λ later. ap (λ xs. xs ++ later) (host_says_none plan);

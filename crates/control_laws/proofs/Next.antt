@@ -1,16 +1,8 @@
 -- A side goes on with the opening at a place of a phase that starts, if there is one.
 use Rattle.std.proofs.Common.{◌≡◌, ℕ, suc, ◌<◌, ◌≤◌, List, [], ◌∷◌, length, Option, Some, None, sym, refl, ap, subst, arith}
-use Rattle.contact.specs.declared.version.Version.{Version}
-use Rattle.contact.specs.declared.part.Part.{Part}
+use Rattle.control_laws.proofs.Words.{Version, Part, Msg, Opening, Channel, Change, Same, GuestWait, GuestTurn}
 use Rattle.gpadl.specs.Cut.{cut}
-use Rattle.vmbus_msg.specs.declared.msg.Msg.{Msg}
-use Rattle.control_model.specs.declared.opening.Opening.{Opening}
-use Rattle.control_model.specs.declared.channel.Channel.{Channel}
-use Rattle.control_model.specs.declared.change.Change.{Change}
-use Rattle.control_model.specs.declared.change.Change.TheVariants.{Same}
 use Rattle.control_model.specs.declared.burst.Burst.TheVariants.{Empty}
-use Rattle.control_model.specs.declared.guest_wait.GuestWait.{GuestWait}
-use Rattle.control_model.specs.declared.guest_turn.GuestTurn.{GuestTurn}
 use Rattle.control_model.specs.Plan.{BusPlan, first_subs, laters, phase_of}
 use Rattle.control_model.specs.Channels.{changed}
 use Rattle.control_model.specs.Messages.{pages_from}
@@ -22,10 +14,8 @@ use Rattle.control_laws.proofs.Relids.{offered_more}
 pub all_open : {X : Type 0} (plan : BusPlan) (channels : List X) (so : Opening → X) (phase : ℕ) (done : List Opening) (base : ℕ → X) → phase < length plan.phases → phase_of plan phase ≡ done
     → Stand channels (offered_by plan phase done []) (marked so done base) → Stand channels (offered_before plan (suc phase)) (marked so (phase_of plan phase) base)
 all_open plan channels so phase done base in_plan full stand =
-    let more = offered_more plan phase in_plan in
-    let same = ap (λ os. length (laters os)) full in
     let none : length (first_subs []) ≡ 0 = refl in
-    let count : offered_by plan phase done [] ≡ offered_before plan (suc phase) = omega (arith, more, same, none) in
+    let count : offered_by plan phase done [] ≡ offered_before plan (suc phase) = omega (arith, offered_more plan phase in_plan, (ap (λ os. length (laters os)) full), none) in
     subst (λ n. Stand channels n (marked so (phase_of plan phase) base)) count (subst (λ os. Stand channels (offered_by plan phase done []) (marked so os base)) (sym full) stand)
 
 -- where a guest stands after a turn

@@ -2,27 +2,9 @@
 use Rattle.std.proofs.Common.{◌≡◌, ◌≢◌, ◌∙◌, ℕ, suc, ◌+◌, ◌-◌, ◌<◌, ◌||◌, Bool, true, false, List, [], ◌∷◌, ◌++◌, length, slice_get, slice_set, if◌then◌else◌, Option, Some, None, refl, sym, ap, subst}
 use Rattle.std.specs.Option.{option_to_list}
 use Rattle.std.proofs.lemmas.List.{append-nil}
-use Rattle.contact.specs.declared.version.Version.{Version}
-use Rattle.contact.specs.declared.part.Part.{Part}
-use Rattle.contact.specs.declared.part.Part.TheVariants.{PhaseEnd}
-use Rattle.chan_state.specs.declared.state.State.TheVariants.{Opened, Closing, Rescinded as IsRescinded}
-use Rattle.chan_state.specs.declared.chan_state.ChanState.{ChanState}
-use Rattle.gpadl.specs.Assembly.{Assembly}
-use Rattle.vmbus_msg.specs.declared.msg.Msg.{Msg}
-use Rattle.control_model.specs.declared.opening.Opening.{Opening}
-use Rattle.control_model.specs.declared.buffer.Buffer.{Buffer}
-use Rattle.control_model.specs.declared.buffer.Buffer.TheVariants.{Receive, Send}
-use Rattle.control_model.specs.declared.channel.Channel.{Channel}
-use Rattle.control_model.specs.declared.change.Change.{Change}
-use Rattle.control_model.specs.declared.change.Change.TheVariants.{Same}
+use Rattle.control_laws.proofs.Words.{Version, Part, PhaseEnd, Opened, Closing, IsRescinded, ChanState, Assembly, Msg, Opening, Buffer, Receive, Send, Channel, Change, Same, One, GuestWait, Torn, GuestTurn, HostWait, AwaitsClose, AwaitsRelease, HostNext}
 use Rattle.control_model.specs.declared.burst.Burst.{Burst}
-use Rattle.control_model.specs.declared.burst.Burst.TheVariants.{Empty, One}
-use Rattle.control_model.specs.declared.guest_wait.GuestWait.{GuestWait}
-use Rattle.control_model.specs.declared.guest_wait.GuestWait.TheVariants.{Torn}
-use Rattle.control_model.specs.declared.guest_turn.GuestTurn.{GuestTurn}
-use Rattle.control_model.specs.declared.host_wait.HostWait.{HostWait}
-use Rattle.control_model.specs.declared.host_wait.HostWait.TheVariants.{Close, Release}
-use Rattle.control_model.specs.declared.host_next.HostNext.{HostNext}
+use Rattle.control_model.specs.declared.burst.Burst.TheVariants.{Empty}
 use Rattle.control_model.specs.declared.host_next.Rescind.{Rescind}
 use Rattle.control_model.specs.Plan.{BusPlan, buffer_list, is_sub, closing_of, closing_at, IsPlan, phase_of}
 use Rattle.control_model.specs.Channels.{by_relid, changed}
@@ -39,9 +21,9 @@ use Rattle.control_laws.proofs.Marks.{stand_like, stand_mark, stand_at, marked_h
 use Rattle.control_laws.proofs.Closing.{marked_closing}
 use Rattle.control_laws.proofs.Relids.{phase_relids}
 use Rattle.control_laws.proofs.Plans.{end_facts, ends_more, ends_place, closing_from}
-use Rattle.control_laws.proofs.Handles.{all_front}
 use Rattle.control_laws.proofs.Live.{let_go, none_live}
 use Rattle.control_laws.proofs.Next.{Turned}
+use Rattle.control_laws.proofs.Cutting.{all_front}
 
 -- where all channels of a phase are done with, they stand as they do before the next one
 all_done : {X : Type 0} (plan : BusPlan) (channels : List X) (so : Opening → X) (phase : ℕ) (done : List Opening) (base : ℕ → X) → IsPlan plan → phase < length plan.phases → closing_of plan phase ≡ done
@@ -180,8 +162,8 @@ host_one plan hosts channels phase place done o left true planned at stand next 
     let there : Stand (slice_set hosts (o.relid - 1) (host_is (vps_before plan (suc phase)) IsRescinded o)) (offered_before plan (suc phase)) marks =
     stand_mark hosts (offered_before plan (suc phase)) (host_ends (vps_before plan (suc phase))) (host_is (vps_before plan (suc phase)) IsRescinded) done o (marked (host_is (vps_before plan (suc phase)) Opened) (o ∷ left) before) (marked (host_is (vps_before plan (suc phase)) Opened) left before) stand fact.fits.named fact.known fact.done_apart
     (λ q off. sym (marked_there (host_is (vps_before plan (suc phase)) Opened) o left before q off)) in
-    let way : Option ChanState → HostNext = λ c. record { awaits = Release place; rescinds = wants_rescind o c } in
-    subst (λ c. HostEnds plan phase hosts (lists_but done (phase_of plan phase)) (way c) (Release place) marks (lists_but (done ++ o ∷ []) (phase_of plan phase)) (rescind o.relid ∷ [])) (sym next)
+    let way : Option ChanState → HostNext = λ c. record { awaits = AwaitsRelease place; rescinds = wants_rescind o c } in
+    subst (λ c. HostEnds plan phase hosts (lists_but done (phase_of plan phase)) (way c) (AwaitsRelease place) marks (lists_but (done ++ o ∷ []) (phase_of plan phase)) (rescind o.relid ∷ [])) (sym next)
     (record { awaits = refl; host = there; lists_are = let_go done o (phase_of plan phase); said = host_answers_too plan r })
 
 host_from_left : (plan : BusPlan) (hosts channels : List ChanState) (phase place : ℕ) (done left : List Opening) → IsPlan plan → phase < length plan.phases → closing_of plan phase ≡ done ++ left → place ≡ length done
@@ -213,7 +195,7 @@ host_next_one plan v hosts phase place done o left false true is has at meet = H
 host_next_one plan v hosts phase place done o left false false is has at meet =
     let lists : Assembly = lists_but done (phase_of plan phase) in
     let none : without_buffers lists o ≡ lists = ap (λ b. if b then without (without lists (buffer_list o Send)) (buffer_list o Receive) else lists) has in
-    subst (λ l. HostStands plan (Some (PhaseEnd phase)) (Close place) (Some v) hosts l [] []) none (HostCloses v hosts phase place done o left at is meet)
+    subst (λ l. HostStands plan (Some (PhaseEnd phase)) (AwaitsClose place) (Some v) hosts l [] []) none (HostCloses v hosts phase place done o left at is meet)
 
 pub host_next : (plan : BusPlan) (v : Version) (hosts : List ChanState) (phase place : ℕ) (done left : List Opening) → IsPlan plan → phase < length plan.phases → closing_of plan phase ≡ done ++ left → place ≡ length done
     → Meet plan v hosts (offered_before plan (suc phase)) (marked (host_ends (vps_before plan (suc phase))) done (host_next_stands (vps_before plan (suc phase)) left (host_before (vps_before plan (suc phase)) plan phase))) → HostStands plan (Some (PhaseEnd phase)) (host_next_awaits place left) (Some v) hosts (lists_but (host_next_done done left) (phase_of plan phase)) [] []

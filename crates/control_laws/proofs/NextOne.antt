@@ -1,15 +1,8 @@
 -- How both sides go on at the end of a phase with the openings that are left of it: the first of them is closed, or rescinded.
 use Rattle.std.proofs.Common.{ℕ, Bool, true, false, List, [], ◌∷◌, ◌++◌}
-use Rattle.chan_state.specs.declared.state.State.TheVariants.{Opened, Closing, Rescinded as IsRescinded}
-use Rattle.chan_state.specs.declared.chan_state.ChanState.{ChanState}
-use Rattle.vmbus_msg.specs.declared.msg.Msg.{Msg}
-use Rattle.control_model.specs.declared.opening.Opening.{Opening}
-use Rattle.control_model.specs.declared.buffer.Buffer.TheVariants.{Send}
-use Rattle.control_model.specs.declared.channel.Channel.{Channel}
-use Rattle.control_model.specs.declared.guest_wait.GuestWait.{GuestWait}
-use Rattle.control_model.specs.declared.guest_wait.GuestWait.TheVariants.{Nothing, Unlisted, Torn, Rescinded}
-use Rattle.control_model.specs.declared.host_wait.HostWait.{HostWait}
-use Rattle.control_model.specs.declared.host_wait.HostWait.TheVariants.{Nothing as HostNothing, Empty, Close, Release}
+use Rattle.control_laws.proofs.Words.{Opened, Closing, IsRescinded, ChanState, Msg, Opening, Send, Channel, GuestWait, Unlisted, Torn, Rescinded, HostWait, HostNothing, AwaitsClose, AwaitsRelease}
+use Rattle.control_model.specs.declared.guest_wait.GuestWait.TheVariants.{Nothing}
+use Rattle.control_model.specs.declared.host_wait.HostWait.TheVariants.{Empty}
 use Rattle.control_model.specs.Messages.{close, teardown, teardown_buffer, rescind}
 use Rattle.control_model.specs.Stand.{marked, guest_is, host_is}
 
@@ -43,9 +36,9 @@ guest_next_sends (o ∷ left) = guest_sends o o.rescinded o.buffers
 
 -- the host waits for it to be closed, or for the page lists of its buffers to be torn down before; or it rescinds it: all its page lists end
 abbrev pub host_waits : ℕ → Bool → Bool → HostWait
-host_waits place true buffers = Release place
+host_waits place true buffers = AwaitsRelease place
 host_waits place false true = Empty place Send
-host_waits place false false = Close place
+host_waits place false false = AwaitsClose place
 
 abbrev pub host_next_awaits : ℕ → List Opening → HostWait
 host_next_awaits place [] = HostNothing

@@ -2,8 +2,7 @@
 use Rattle.std.proofs.Common.{◌≡◌, ◌∙◌, ℕ, zero, suc, ◌-◌, ◌<◌, true, List, [], ◌∷◌, ◌++◌, length, map, take, replicate, slice_get, Some, refl, sym, ap, arith}
 use Rattle.std.proofs.lemmas.List.{length-replicate, length-map}
 use Rattle.std.proofs.lemmas.Slice.Eq.{bytes_eq-Decides}
-use Rattle.contact.specs.declared.kind.Kind.{Kind}
-use Rattle.contact.specs.Classes.{class_id}
+use Rattle.control_laws.proofs.Words.{Kind, class_id}
 use Rattle.control_model.specs.Plan.{BusPlan, laters, all_openings}
 use Rattle.control_model.specs.Channels.{same_kind}
 use Rattle.control_model.specs.Stand.{offered_before, Stand}

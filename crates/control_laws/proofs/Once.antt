@@ -1,5 +1,5 @@
 -- A channel that is given back at the end of a phase is taken back once, and given back once; one that is offered later is offered once.
-use Rattle.std.proofs.Common.{◌≡◌, ◌≢◌, ◌∙◌, ℕ, zero, suc, ◌+◌, ◌<◌, ◌≤◌, ◌==◌, ◌&&◌, ◌||◌, nat_lt, Bool, true, false, cond, List, [], ◌∷◌, ◌++◌, filter, length, map, drop, slice_index_or, Option, Some, None, is_some, if◌then◌else◌, refl, sym, ap, subst, arith}
+use Rattle.std.proofs.Common.{◌≡◌, ◌≢◌, ◌∙◌, ℕ, zero, suc, ◌+◌, ◌<◌, ◌≤◌, ◌==◌, ◌&&◌, ◌||◌, nat_lt, Bool, true, false, cond, List, [], ◌∷◌, ◌++◌, filter, length, map, slice_index_or, Option, Some, None, is_some, if◌then◌else◌, refl, sym, ap, subst, arith}
 use Rattle.std.specs.List.{AllByRecursion, flat_map}
 use Rattle.std.proofs.lemmas.Bool.{eqb-true}
 use Rattle.std.proofs.lemmas.Bool.Decides.{nat_tests}
@@ -7,52 +7,31 @@ use Rattle.std.proofs.lemmas.Grind.{flat_map-append}
 use Rattle.std.proofs.lemmas.List.{append-nil, map-append}
 use Rattle.std.proofs.lemmas.List.Concat.{flat_map-cons}
 use Rattle.std.proofs.lemmas.List.Elements.{filter-append}
-use Rattle.contact.specs.declared.kind.Kind.{Kind}
-use Rattle.contact.specs.Versions.{versions_tried, answers_modify}
-use Rattle.contact.specs.Classes.{offer, offers_from}
-use Rattle.vmbus_msg.specs.declared.msg.Msg.{Msg}
-use Rattle.gpadl.specs.Cut.{bodies, cut}
-use Rattle.control_model.specs.declared.buffer.Buffer.TheVariants.{Receive, Send}
-use Rattle.control_model.specs.declared.opening.Opening.{Opening}
-use Rattle.control_model.specs.Plan.{BusPlan, buffer_list, IsOpening, is_sub, is_later, first_subs, subs_next, laters, in_closing_order, opening_at, IsPlan, phase_of, closing_of, vp_for}
-use Rattle.control_model.specs.Messages.{propose, request, delivered, pages_from, buffer_pages, created, open_on, opened, modify, modified, offer_sub, offer_service, close, teardown, teardown_buffer, torndown, rescind, release, farewell, farewell_taken}
-use Rattle.control_model.specs.Said.{agreed, answer_to, moved, guest_moves, host_moves, guest_contacts, host_contacts, dials, dial_offers, guest_lists, guest_buffer, guest_buffers, host_buffer, host_buffers, guest_opens, host_opens, host_opens_all, guest_closes, host_closes, guest_in_phase, host_in_phase, from_3_0, ends_given_back}
+use Rattle.control_laws.proofs.Words.{Kind, offers_from, Msg, Receive, Send, Opening}
+use Rattle.control_model.specs.Plan.{BusPlan, buffer_list, IsOpening, is_sub, is_later, first_subs, subs_next, laters, in_closing_order, opening_at, IsPlan, phase_of, closing_of}
+use Rattle.control_model.specs.Messages.{created, opened, offer_sub, offer_service, close, teardown, teardown_buffer, torndown, rescind, release, farewell, farewell_taken}
+use Rattle.control_model.specs.Said.{guest_moves, host_moves, guest_contacts, host_contacts, dial_offers, host_buffers, guest_opens, host_opens, host_opens_all, guest_closes, host_closes, guest_in_phase, host_in_phase, from_3_0, ends_given_back}
 use Rattle.control_model.specs.Stand.{offered_before, EndsAt}
 use Rattle.control_laws.specs.Laws.{is_rescind_of, is_release_of, is_offer_of, RescindedOnce, SubsOnce, ServicesOnce}
-use Rattle.control_laws.proofs.Marks.{by_test, same, differ}
+use Rattle.control_laws.proofs.Marks.{by_test, same, differ, and_none, or_true}
+use Rattle.control_laws.proofs.Never.{only_if, all_offers, host_contact, host_starts, host_moving, host_ends, guest_contact, guest_starts, guest_moving}
 use Rattle.control_laws.proofs.Closing.{all_closing, closing_mid}
 use Rattle.control_laws.proofs.Cutting.{all_weaker, mid_all}
 use Rattle.control_laws.proofs.Relids.{later_is, sub_later, dialed_later, phase_relids, offered_grows, subs_before}
 use Rattle.control_laws.proofs.Plans.{cut_at, phase_has, facts, end_facts, not_given_back}
 use Rattle.control_laws.proofs.Seats.{starts_first, phase_seated}
 
-and_none : (a : Bool) → (a && false) ≡ false
-and_none true = refl
-and_none false = refl
-
-or_true : (a : Bool) → (a || true) ≡ true
-or_true true = refl
-or_true false = refl
-
 -- messages of which none passes
-none_among : (p : Msg → Bool) (f : ℕ → Msg) (vs : List ℕ) → ((v : ℕ) → p (f v) ≡ false) → filter p (map f vs) ≡ []
-none_among p f [] none = refl
-none_among p f (v ∷ vs) none = rw (none v) (none_among p f vs none)
-
-none_of_each : (p : Msg → Bool) (f : Opening → List Msg) (os : List Opening) → ((o : Opening) → filter p (f o) ≡ []) → filter p (flat_map f os) ≡ []
-none_of_each p f [] none = refl
-none_of_each p f (o ∷ os) none =
-    let one = none o in
-    let rest = none_of_each p f os none in
-    ap (filter p) (flat_map-cons f o os) ∙ filter-append p (f o) (flat_map f os) ∙ (λ i. one i ++ rest i)
+none_pass : (p : Msg → Bool) (ms : List Msg) → AllByRecursion (λ m. p m ≡ false) ms → filter p ms ≡ []
+none_pass p [] off = refl
+none_pass p (m ∷ ms) off = rw off.0 (none_pass p ms off.1)
 
 -- of all phases one has messages that pass
 phases_none : (p : Msg → Bool) (says : List Opening → List Msg) (phases : List (List Opening)) → ((j : ℕ) → j < length phases → filter p (says (slice_index_or phases j [])) ≡ []) → filter p (flat_map says phases) ≡ []
 phases_none p says [] none = refl
 phases_none p says (os ∷ phases) none =
-    let first = none 0 (omega arith) in
     let rest = phases_none p says phases (λ j less. none (suc j) (omega (arith, less))) in
-    ap (filter p) (flat_map-cons says os phases) ∙ filter-append p (says os) (flat_map says phases) ∙ (λ i. first i ++ rest i)
+    ap (filter p) (flat_map-cons says os phases) ∙ filter-append p (says os) (flat_map says phases) ∙ (λ i. (none 0 (omega arith)) i ++ rest i)
 
 phases_once : (p : Msg → Bool) (says : List Opening → List Msg) (whole : List Msg) (phases : List (List Opening)) (k : ℕ) → k < length phases
     → ((j : ℕ) → j < length phases → j ≢ k → filter p (says (slice_index_or phases j [])) ≡ []) → filter p (says (slice_index_or phases k [])) ≡ whole → filter p (flat_map says phases) ≡ whole
@@ -61,9 +40,8 @@ phases_once p says whole (os ∷ phases) zero less none once =
     let rest = phases_none p says phases (λ j few. none (suc j) (omega (arith, few)) (λ e. absurd (omega (arith, e)))) in
     ap (filter p) (flat_map-cons says os phases) ∙ filter-append p (says os) (flat_map says phases) ∙ (λ i. once i ++ rest i) ∙ append-nil whole
 phases_once p says whole (os ∷ phases) (suc k) less none once =
-    let first = none 0 (omega arith) (λ e. absurd (omega (arith, e))) in
     let rest = phases_once p says whole phases k (omega (arith, less)) (λ j few off. none (suc j) (omega (arith, few)) (λ e. off (omega (arith, e)))) once in
-    ap (filter p) (flat_map-cons says os phases) ∙ filter-append p (says os) (flat_map says phases) ∙ (λ i. first i ++ rest i)
+    ap (filter p) (flat_map-cons says os phases) ∙ filter-append p (says os) (flat_map says phases) ∙ (λ i. (none 0 (omega arith) (λ e. absurd (omega (arith, e)))) i ++ rest i)
 
 -- a channel is given back at this opening's end
 abbrev Gives : ℕ → Opening → Bool
@@ -74,17 +52,13 @@ module _ (relid : ℕ) (p : Msg → Bool) (ends : Opening → List Msg) (taken :
   none_ends : (os : List Opening) → AllByRecursion (λ o. Gives relid o ≡ false) os → filter p (flat_map ends os) ≡ []
   none_ends [] all = refl
   none_ends (o ∷ os) all =
-      let one : filter p (ends o) ≡ [] = passes o ∙ ap (λ b. cond b (taken ∷ []) []) all.0 in
-      let rest = none_ends os all.1 in
-      ap (filter p) (flat_map-cons ends o os) ∙ filter-append p (ends o) (flat_map ends os) ∙ (λ i. one i ++ rest i)
+      ap (filter p) (flat_map-cons ends o os) ∙ filter-append p (ends o) (flat_map ends os) ∙ (λ i. (passes o ∙ ap (λ b. cond b (taken ∷ []) []) all.0) i ++ (none_ends os all.1) i)
 
   one_end : (done : List Opening) (o : Opening) (left : List Opening) → AllByRecursion (λ o. Gives relid o ≡ false) done → AllByRecursion (λ o. Gives relid o ≡ false) left → Gives relid o ≡ true → filter p (flat_map ends (done ++ o ∷ left)) ≡ taken ∷ []
   one_end done o left before behind here =
-      let a = none_ends done before in
-      let one : filter p (ends o) ≡ taken ∷ [] = passes o ∙ ap (λ b. cond b (taken ∷ []) []) here in
       let c = none_ends left behind in
       ap (filter p) (flat_map-append ends done (o ∷ left)) ∙ filter-append p (flat_map ends done) (flat_map ends (o ∷ left)) ∙ ap (λ xs. filter p (flat_map ends done) ++ filter p xs) (flat_map-cons ends o left)
-      ∙ ap (λ xs. filter p (flat_map ends done) ++ xs) (filter-append p (ends o) (flat_map ends left)) ∙ (λ i. a i ++ (one i ++ c i))
+      ∙ ap (λ xs. filter p (flat_map ends done) ++ xs) (filter-append p (ends o) (flat_map ends left)) ∙ (λ i. (none_ends done before) i ++ ((passes o ∙ ap (λ b. cond b (taken ∷ []) []) here) i ++ c i))
 
 -- no other opening gives it back
 other_gives : (plan : BusPlan) (phase place j : ℕ) (done : List Opening) (o : Opening) (left : List Opening) → IsPlan plan → phase_of plan phase ≡ done ++ o ∷ left → phase < length plan.phases → ends_given_back o ≡ true → j < length plan.phases → j ≢ phase
@@ -123,78 +97,16 @@ given_once plan phase place o p starts moves ends taken planned is gone none_sta
     let one = one_end o.relid p ends taken passes mid.done o mid.left (apart_gives o.relid mid.done fact.done_apart) (apart_gives o.relid mid.left fact.left_apart) here in
     let parts : (os : List Opening) → filter p (says os) ≡ filter p (flat_map ends (in_closing_order os)) = λ os.
     let none = none_starts os in
-    let still = none_moves os in
     filter-append p (starts os) (moves os ++ flat_map ends (in_closing_order os)) ∙ ap (λ xs. xs ++ filter p (moves os ++ flat_map ends (in_closing_order os))) none ∙ filter-append p (moves os) (flat_map ends (in_closing_order os))
-    ∙ ap (λ xs. xs ++ filter p (flat_map ends (in_closing_order os))) still in
+    ∙ ap (λ xs. xs ++ filter p (flat_map ends (in_closing_order os))) (none_moves os) in
     phases_once p says (taken ∷ []) plan.phases phase in_plan
     (λ j few off. parts (phase_of plan j) ∙ none_ends o.relid p ends taken passes (closing_of plan j) (all_closing (λ q. Gives o.relid q ≡ false) (phase_of plan j) (other_gives plan phase place j cut.done o cut.left planned cut.at.phase_is in_plan gone few off)))
     (parts (phase_of plan phase) ∙ ap (λ os. filter p (flat_map ends os)) closing ∙ one)
-
--- of those that move channels
-moves_none : (p : Msg → Bool) (f : Opening → Msg) (os : List Opening) → ((o : Opening) → p (f o) ≡ false) → filter p (map f os) ≡ []
-moves_none p f [] none = refl
-moves_none p f (o ∷ os) none = rw (none o) (moves_none p f os none)
-
-guest_moves_none : (p : Msg → Bool) (plan : BusPlan) (os : List Opening) → ((o : Opening) → p (modify o.relid (vp_for o)) ≡ false) → filter p (guest_moves plan os) ≡ []
-guest_moves_none p plan os none = moves_none p (λ o. modify o.relid (vp_for o)) (moved plan os) none
-
-host_moves_none : (p : Msg → Bool) (plan : BusPlan) (os : List Opening) → ((o : Opening) → p (modified o.relid) ≡ false) → filter p (host_moves plan os) ≡ []
-host_moves_none p plan os none = one (answers_modify (agreed plan))
-  where
-    one : (b : Bool) → filter p (if b then map (λ o. modified o.relid) (moved plan os) else []) ≡ []
-    one true = moves_none p (λ o. modified o.relid) (moved plan os) none
-    one false = refl
 
 -- between the contact and the farewell
 between : (p : Msg → Bool) (front mid back whole : List Msg) → filter p front ≡ [] → filter p back ≡ [] → filter p mid ≡ whole → filter p (front ++ (mid ++ back)) ≡ whole ++ []
 between p front mid back whole none_front none_back is =
     filter-append p front (mid ++ back) ∙ ap (λ xs. xs ++ filter p (mid ++ back)) none_front ∙ filter-append p mid back ∙ (λ i. is i ++ none_back i)
-
-if_said : (p : Msg → Bool) (m : Msg) (b : Bool) → p m ≡ false → filter p (if b then m ∷ [] else []) ≡ []
-if_said p m true off = rw off refl
-if_said p m false off = refl
-
--- the host takes it back
-none_offered : (relid r : ℕ) (kinds : List Kind) → filter (is_rescind_of relid) (offers_from r kinds) ≡ []
-none_offered relid r [] = refl
-none_offered relid r (kind ∷ kinds) = none_offered relid (r + 1) kinds
-
-host_contact : (relid : ℕ) (plan : BusPlan) → filter (is_rescind_of relid) (host_contacts plan) ≡ []
-host_contact relid plan =
-    let p : Msg → Bool = is_rescind_of relid in
-    let tried : List ℕ = versions_tried plan.guest.0 plan.host.0 in
-    let a = none_among p (answer_to plan) tried (λ v. refl) in
-    let b = none_offered relid 1 plan.kinds in
-    filter-append p (map (answer_to plan) tried) (offers_from 1 plan.kinds ++ delivered ∷ []) ∙ ap (λ xs. filter p (map (answer_to plan) tried) ++ xs) (filter-append p (offers_from 1 plan.kinds) (delivered ∷ []))
-    ∙ (λ i. a i ++ (b i ++ []))
-
-no_sub_offer : (relid : ℕ) (os : List Opening) → filter (is_rescind_of relid) (map offer_sub os) ≡ []
-no_sub_offer relid [] = refl
-no_sub_offer relid (o ∷ os) = no_sub_offer relid os
-
-no_dial_offer : (relid r : ℕ) (dialed : Option ℕ) → filter (is_rescind_of relid) (dial_offers r dialed) ≡ []
-no_dial_offer relid r None = refl
-no_dial_offer relid r (Some port) = refl
-
-no_fill_answer : (relid : ℕ) (o : Opening) → filter (is_rescind_of relid) (host_buffers o) ≡ []
-no_fill_answer relid o = by_buffers o.buffers
-  where
-    by_buffers : (b : Bool) → filter (is_rescind_of relid) (if b then host_buffer o Receive ∷ host_buffer o Send ∷ [] else []) ≡ []
-    by_buffers true = refl
-    by_buffers false = refl
-
-host_starts : (relid : ℕ) (os : List Opening) → filter (is_rescind_of relid) (host_opens_all os) ≡ []
-host_starts relid [] = refl
-host_starts relid (o ∷ os) =
-    let p : Msg → Bool = is_rescind_of relid in
-    let both : List Msg = created o.relid o.gpadl ∷ opened o.relid o.relid ∷ host_buffers o in
-    let fill = no_fill_answer relid o in
-    let rest : List Msg = map offer_sub (subs_next (o ∷ os)) ++ host_opens_all os in
-    let d = no_dial_offer relid o.relid o.dialed in
-    let a = no_sub_offer relid (subs_next (o ∷ os)) in
-    let b = host_starts relid os in
-    filter-append p (host_opens o) rest ∙ ap (λ xs. xs ++ filter p rest) (filter-append p (dial_offers o.relid o.dialed) both) ∙ (λ i. (d i ++ fill i) ++ filter p rest)
-    ∙ filter-append p (map offer_sub (subs_next (o ∷ os))) (host_opens_all os) ∙ (λ i. a i ++ b i)
 
 -- of one channel
 it_passes : (r relid : ℕ) (m : ℕ → Msg) → cond (r == relid) (m r ∷ []) [] ≡ cond ((r == relid) && true) (m relid ∷ []) []
@@ -212,46 +124,6 @@ host_passes relid o false false true = it_passes o.relid relid rescind
 host_passes relid o false true false = none_passes o.relid relid (rescind relid)
 host_passes relid o false false false = none_passes o.relid relid (rescind relid)
 
--- the guest gives it back
-guest_contact : (relid : ℕ) (plan : BusPlan) → filter (is_release_of relid) (guest_contacts plan) ≡ []
-guest_contact relid plan =
-    let p : Msg → Bool = is_release_of relid in
-    let tried : List ℕ = versions_tried plan.guest.0 plan.host.0 in
-    let a = none_among p propose tried (λ v. refl) in
-    filter-append p (map propose tried) (request ∷ []) ∙ (λ i. a i ++ [])
-
-no_body : (relid most handle number : ℕ) (frames : List ℕ) → filter (is_release_of relid) (bodies most handle number frames) ≡ []
-no_body relid zero handle number frames = refl
-no_body relid (suc most) handle number [] = refl
-no_body relid (suc most) handle number (frame ∷ frames) = no_body relid most handle (number + 1) (drop 28 (frame ∷ frames))
-
-no_cut : (relid r handle : ℕ) (pages : List ℕ) → filter (is_release_of relid) (cut r handle pages) ≡ []
-no_cut relid r handle [] = refl
-no_cut relid r handle (page ∷ pages) = no_body relid (length pages) handle 0 (drop 26 (page ∷ pages))
-
-no_dial : (relid : ℕ) (dialed : Option ℕ) → filter (is_release_of relid) (dials dialed) ≡ []
-no_dial relid None = refl
-no_dial relid (Some port) = refl
-
-no_fill : (relid : ℕ) (o : Opening) → filter (is_release_of relid) (guest_buffers o) ≡ []
-no_fill relid o = by_buffers o.buffers
-  where
-    by_buffers : (b : Bool) → filter (is_release_of relid) (if b then guest_buffer o Receive ++ guest_buffer o Send else []) ≡ []
-    by_buffers true =
-        let p : Msg → Bool = is_release_of relid in
-        let a = no_cut relid o.relid (buffer_list o Receive) (buffer_pages o Receive) in
-        let c = no_cut relid o.relid (buffer_list o Send) (buffer_pages o Send) in
-        filter-append p (guest_buffer o Receive) (guest_buffer o Send) ∙ (λ i. a i ++ c i)
-    by_buffers false = refl
-
-guest_starts : (relid : ℕ) (o : Opening) → filter (is_release_of relid) (guest_opens o) ≡ []
-guest_starts relid o =
-    let p : Msg → Bool = is_release_of relid in
-    let d = no_dial relid o.dialed in
-    let a = no_cut relid o.relid o.gpadl (pages_from o) in
-    let fill = no_fill relid o in
-    filter-append p (dials o.dialed) (guest_lists o) ∙ ap (λ xs. xs ++ filter p (guest_lists o)) d ∙ filter-append p (cut o.relid o.gpadl (pages_from o)) (open_on o ∷ guest_buffers o) ∙ (λ i. a i ++ fill i)
-
 guest_passes : (relid : ℕ) (o : Opening) (b e c : Bool) → filter (is_release_of relid) (if b then release o.relid ∷ [] else (if e then teardown_buffer o Send ∷ teardown_buffer o Receive ∷ [] else []) ++ (close o.relid ∷ teardown o ∷ (if c then release o.relid ∷ [] else []))) ≡ cond ((o.relid == relid) && (b || c)) (release relid ∷ []) []
 guest_passes relid o true e c = it_passes o.relid relid release
 guest_passes relid o false true true = it_passes o.relid relid release
@@ -260,23 +132,29 @@ guest_passes relid o false true false = none_passes o.relid relid (release relid
 guest_passes relid o false false false = none_passes o.relid relid (release relid)
 
 host_once : (plan : BusPlan) (phase place : ℕ) (o : Opening) → IsPlan plan → opening_at plan phase place ≡ Some o → ends_given_back o ≡ true → filter (is_rescind_of o.relid) (flat_map (host_in_phase plan) plan.phases) ≡ rescind o.relid ∷ []
-host_once plan phase place o planned is gone = given_once plan phase place o (is_rescind_of o.relid) host_opens_all (host_moves plan) host_closes (rescind o.relid) planned is gone (host_starts o.relid) (λ os. host_moves_none (is_rescind_of o.relid) plan os (λ q. refl)) (λ q. host_passes o.relid q q.rescinded q.buffers (is_sub q))
+host_once plan phase place o planned is gone = given_once plan phase place o (is_rescind_of o.relid) host_opens_all (host_moves plan) host_closes (rescind o.relid) planned is gone
+    (λ os. none_pass (is_rescind_of o.relid) (host_opens_all os) (host_starts (λ m. is_rescind_of o.relid m ≡ false) (λ k r s. refl) (λ r h. refl) (λ r. refl) os))
+    (λ os. none_pass (is_rescind_of o.relid) (host_moves plan os) (host_moving (λ m. is_rescind_of o.relid m ≡ false) plan os (λ r. refl))) (λ q. host_passes o.relid q q.rescinded q.buffers (is_sub q))
 
 guest_once : (plan : BusPlan) (phase place : ℕ) (o : Opening) → IsPlan plan → opening_at plan phase place ≡ Some o → ends_given_back o ≡ true → filter (is_release_of o.relid) (flat_map (guest_in_phase plan) plan.phases) ≡ release o.relid ∷ []
 guest_once plan phase place o planned is gone =
-    given_once plan phase place o (is_release_of o.relid) (flat_map guest_opens) (guest_moves plan) guest_closes (release o.relid) planned is gone (λ os. none_of_each (is_release_of o.relid) guest_opens os (guest_starts o.relid)) (λ os. guest_moves_none (is_release_of o.relid) plan os (λ q. refl)) (λ q. guest_passes o.relid q q.rescinded q.buffers (is_sub q))
+    given_once plan phase place o (is_release_of o.relid) (flat_map guest_opens) (guest_moves plan) guest_closes (release o.relid) planned is gone
+    (λ os. none_pass (is_release_of o.relid) (flat_map guest_opens os) (guest_starts (λ m. is_release_of o.relid m ≡ false) (λ p. refl) (λ h. refl) (λ b. refl) (λ q. refl) os))
+    (λ os. none_pass (is_release_of o.relid) (guest_moves plan os) (guest_moving (λ m. is_release_of o.relid m ≡ false) plan os (λ r v. refl))) (λ q. guest_passes o.relid q q.rescinded q.buffers (is_sub q))
 
 host_said_once : (plan : BusPlan) (phase place : ℕ) (o : Opening) (posted : List Msg) → IsPlan plan → opening_at plan phase place ≡ Some o → ends_given_back o ≡ true → posted ≡ host_contacts plan ++ (flat_map (host_in_phase plan) plan.phases ++ from_3_0 plan (farewell_taken ∷ []))
     → filter (is_rescind_of o.relid) posted ≡ rescind o.relid ∷ []
 host_said_once plan phase place o posted planned is gone said =
-    ap (filter (is_rescind_of o.relid)) said ∙ between (is_rescind_of o.relid) (host_contacts plan) (flat_map (host_in_phase plan) plan.phases) (from_3_0 plan (farewell_taken ∷ [])) (rescind o.relid ∷ []) (host_contact o.relid plan)
-    (if_said (is_rescind_of o.relid) farewell_taken _ refl) (host_once plan phase place o planned is gone)
+    ap (filter (is_rescind_of o.relid)) said ∙ between (is_rescind_of o.relid) (host_contacts plan) (flat_map (host_in_phase plan) plan.phases) (from_3_0 plan (farewell_taken ∷ [])) (rescind o.relid ∷ [])
+    (none_pass (is_rescind_of o.relid) (host_contacts plan) (host_contact (λ m. is_rescind_of o.relid m ≡ false) plan (λ n. refl) (all_offers (λ m. is_rescind_of o.relid m ≡ false) (λ k r. refl) 1 plan.kinds) refl))
+    (none_pass (is_rescind_of o.relid) (from_3_0 plan (farewell_taken ∷ [])) (only_if (λ m. is_rescind_of o.relid m ≡ false) _ (farewell_taken ∷ []) (refl, tt))) (host_once plan phase place o planned is gone)
 
 guest_said_once : (plan : BusPlan) (phase place : ℕ) (o : Opening) (posted : List Msg) → IsPlan plan → opening_at plan phase place ≡ Some o → ends_given_back o ≡ true → posted ≡ guest_contacts plan ++ (flat_map (guest_in_phase plan) plan.phases ++ from_3_0 plan (farewell ∷ []))
     → filter (is_release_of o.relid) posted ≡ release o.relid ∷ []
 guest_said_once plan phase place o posted planned is gone said =
-    ap (filter (is_release_of o.relid)) said ∙ between (is_release_of o.relid) (guest_contacts plan) (flat_map (guest_in_phase plan) plan.phases) (from_3_0 plan (farewell ∷ [])) (release o.relid ∷ []) (guest_contact o.relid plan)
-    (if_said (is_release_of o.relid) farewell _ refl) (guest_once plan phase place o planned is gone)
+    ap (filter (is_release_of o.relid)) said ∙ between (is_release_of o.relid) (guest_contacts plan) (flat_map (guest_in_phase plan) plan.phases) (from_3_0 plan (farewell ∷ [])) (release o.relid ∷ [])
+    (none_pass (is_release_of o.relid) (guest_contacts plan) (guest_contact (λ m. is_release_of o.relid m ≡ false) plan (λ v. refl) refl))
+    (none_pass (is_release_of o.relid) (from_3_0 plan (farewell ∷ [])) (only_if (λ m. is_release_of o.relid m ≡ false) _ (farewell ∷ []) (refl, tt))) (guest_once plan phase place o planned is gone)
 
 pub once_law : RescindedOnce
 once_law plan g h phase place o planned over is gone =
@@ -284,27 +162,9 @@ once_law plan g h phase place o planned over is gone =
     (host_said_once plan phase place o h.posted planned is given over.host_said, guest_said_once plan phase place o g.posted planned is given over.guest_said)
 
 -- the host offers a channel later: of all that it says only the offers of such channels count
-none_before : (relid r : ℕ) (kinds : List Kind) → r + length kinds ≤ relid → filter (is_offer_of relid) (offers_from r kinds) ≡ []
-none_before relid r [] few = refl
-none_before relid r (kind ∷ kinds) few =
-    ap (λ b. cond b (offer kind r 0 ∷ filter (is_offer_of relid) (offers_from (r + 1) kinds)) (filter (is_offer_of relid) (offers_from (r + 1) kinds))) (differ r relid (λ e. absurd (omega (arith, e, few))))
-    ∙ none_before relid (r + 1) kinds (omega (arith, few))
-
-offers_contact : (relid : ℕ) (plan : BusPlan) → length plan.kinds < relid → filter (is_offer_of relid) (host_contacts plan) ≡ []
-offers_contact relid plan above =
-    let p : Msg → Bool = is_offer_of relid in
-    let tried : List ℕ = versions_tried plan.guest.0 plan.host.0 in
-    let a = none_among p (answer_to plan) tried (λ v. refl) in
-    let b = none_before relid 1 plan.kinds (omega (arith, above)) in
-    filter-append p (map (answer_to plan) tried) (offers_from 1 plan.kinds ++ delivered ∷ []) ∙ ap (λ xs. filter p (map (answer_to plan) tried) ++ xs) (filter-append p (offers_from 1 plan.kinds) (delivered ∷ []))
-    ∙ (λ i. a i ++ (b i ++ []))
-
-no_offer : (relid : ℕ) (o : Opening) (b e c : Bool) → filter (is_offer_of relid) (if b then rescind o.relid ∷ [] else (if e then torndown (buffer_list o Send) ∷ torndown (buffer_list o Receive) ∷ [] else []) ++ (torndown o.gpadl ∷ (if c then rescind o.relid ∷ [] else []))) ≡ []
-no_offer relid o true e c = refl
-no_offer relid o false true true = refl
-no_offer relid o false true false = refl
-no_offer relid o false false true = refl
-no_offer relid o false false false = refl
+none_before : (relid r : ℕ) (kinds : List Kind) → r + length kinds ≤ relid → AllByRecursion (λ m. is_offer_of relid m ≡ false) (offers_from r kinds)
+none_before relid r [] few = tt
+none_before relid r (kind ∷ kinds) few = (differ r relid (λ e. absurd (omega (arith, e, few))), none_before relid (r + 1) kinds (omega (arith, few)))
 
 join : (t : Bool) (m : Msg) (xs ys zs : List Msg) → xs ++ ys ≡ zs → cond t (m ∷ xs) xs ++ ys ≡ cond t (m ∷ zs) zs
 join true m xs ys zs e = ap (λ ns. m ∷ ns) e
@@ -362,18 +222,13 @@ module _ (relid : ℕ) where
       (λ i. a i ++ (one i ++ (c i ++ offers_all os))) ∙ join_one (o.relid == relid) (offer_service port o.relid) (offers_subs (first_subs os) ++ offers_all os) (offers_in (laters os)) rest
       ∙ sym (more_in o os (offer_service port o.relid) (ap (offer_by o) is) (dialed_later o (ap is_some is)))
   offers_one o os None false is e alone rest =
-      let a = ap (λ b. offers_subs (if b then o ∷ first_subs os else [])) e in
       let none = ap (λ d. filter (is_offer_of relid) (dial_offers o.relid d)) is in
       let c = ap (λ b. offers_subs (if b then [] else first_subs os)) e in
       let now : is_later o ≡ false = later_is o ∙ (λ i. is_some (is i) || e i) in
-      (λ i. a i ++ (none i ++ (c i ++ offers_all os))) ∙ rest ∙ sym (ap (λ b. offers_in (cond b (o ∷ laters os) (laters os))) now)
+      (λ i. (ap (λ b. offers_subs (if b then o ∷ first_subs os else [])) e) i ++ (none i ++ (c i ++ offers_all os))) ∙ rest ∙ sym (ap (λ b. offers_in (cond b (o ∷ laters os) (laters os))) now)
 
   opens_so : (o : Opening) → filter (is_offer_of relid) (host_opens o) ≡ dialed_in o
-  opens_so o = filter-append (is_offer_of relid) (dial_offers o.relid o.dialed) (created o.relid o.gpadl ∷ opened o.relid o.relid ∷ host_buffers o) ∙ ap (λ xs. dialed_in o ++ xs) (no_fill_offer o.buffers) ∙ append-nil (dialed_in o)
-    where
-      no_fill_offer : (b : Bool) → filter (is_offer_of relid) (if b then host_buffer o Receive ∷ host_buffer o Send ∷ [] else []) ≡ []
-      no_fill_offer true = refl
-      no_fill_offer false = refl
+  opens_so o = filter-append (is_offer_of relid) (dial_offers o.relid o.dialed) (created o.relid o.gpadl ∷ opened o.relid o.relid ∷ host_buffers o) ∙ ap (λ xs. dialed_in o ++ xs) (none_pass (is_offer_of relid) (host_buffers o) (only_if (λ m. is_offer_of relid m ≡ false) o.buffers _ (refl, (refl, tt)))) ∙ append-nil (dialed_in o)
 
   offers_so : (os : List Opening) → AllByRecursion Alone os → offers_subs (first_subs os) ++ offers_all os ≡ offers_in (laters os)
   offers_so [] all = refl
@@ -394,23 +249,19 @@ module _ (relid : ℕ) where
   one_later : (done : List Opening) (o : Opening) (left : List Opening) → o.relid ≡ relid → is_later o ≡ true → AllByRecursion (λ q. is_later q ≡ true → q.relid ≢ relid) done → AllByRecursion (λ q. is_later q ≡ true → q.relid ≢ relid) left
       → offers_in (laters (done ++ o ∷ left)) ≡ offer_of o ∷ []
   one_later done o left is later before behind =
-      let a = none_later done before in
-      let c = none_later left behind in
       let here : (o.relid == relid) ≡ true = ap (λ r. o.relid == r) (sym is) ∙ same o.relid in
       ap offers_in (filter-append is_later done (o ∷ left)) ∙ ap (filter (is_offer_of relid)) (map-append offer_of (laters done) (laters (o ∷ left))) ∙ filter-append (is_offer_of relid) (map offer_of (laters done)) (map offer_of (laters (o ∷ left)))
       ∙ ap (λ xs. offers_in (laters done) ++ xs) (more_in o left (offer_of o) refl later) ∙ ap (λ t. offers_in (laters done) ++ cond t (offer_of o ∷ offers_in (laters left)) (offers_in (laters left))) here
-      ∙ (λ i. a i ++ (offer_of o ∷ c i))
+      ∙ (λ i. (none_later done before) i ++ (offer_of o ∷ (none_later left behind) i))
 
   phase_offers : (plan : BusPlan) (j : ℕ) → IsPlan plan → j < length plan.phases → filter (is_offer_of relid) (host_in_phase plan (phase_of plan j)) ≡ offers_in (laters (phase_of plan j)) ++ []
   phase_offers plan j planned few =
       let os : List Opening = phase_of plan j in
-      let none = starts_first os (phase_seated plan j planned few) in
       let alone = all_weaker IsOpening Alone (λ q fits. fits.alone) os (phase_has plan j planned few).fits in
-      let starts : offers_all os ≡ offers_in (laters os) = sym (ap (λ xs. offers_subs xs ++ offers_all os) none) ∙ offers_so os alone in
-      let ends = none_of_each (is_offer_of relid) host_closes (closing_of plan j) (λ q. no_offer relid q q.rescinded q.buffers (is_sub q)) in
-      let moves = host_moves_none (is_offer_of relid) plan os (λ q. refl) in
+      let ends = none_pass (is_offer_of relid) (flat_map host_closes (closing_of plan j)) (host_ends (λ m. is_offer_of relid m ≡ false) (λ h. refl) (λ r. refl) (closing_of plan j)) in
+      let moves = none_pass (is_offer_of relid) (host_moves plan os) (host_moving (λ m. is_offer_of relid m ≡ false) plan os (λ r. refl)) in
       filter-append (is_offer_of relid) (host_opens_all os) (host_moves plan os ++ flat_map host_closes (closing_of plan j)) ∙ ap (λ xs. filter (is_offer_of relid) (host_opens_all os) ++ xs) (filter-append (is_offer_of relid) (host_moves plan os) (flat_map host_closes (closing_of plan j)))
-      ∙ (λ i. starts i ++ (moves i ++ ends i))
+      ∙ (λ i. (sym (ap (λ xs. offers_subs xs ++ offers_all os) (starts_first os (phase_seated plan j planned few))) ∙ offers_so os alone) i ++ (moves i ++ ends i))
 
 -- no other one has its relid
 other_relids : (plan : BusPlan) (phase j : ℕ) (o : Opening) → IsPlan plan → phase < length plan.phases → offered_before plan phase < o.relid → o.relid ≤ offered_before plan (suc phase) → j < length plan.phases → j ≢ phase
@@ -440,8 +291,7 @@ offered_once plan phase place o planned is sub =
       omega (arith, low),
       phases_once (is_offer_of o.relid) (host_in_phase plan) (offer_of o ∷ []) plan.phases phase in_plan
           (λ j few off.
-          let none = none_later o.relid (phase_of plan j) (other_relids plan phase j o planned in_plan low fact.known few off) in
-          phase_offers o.relid plan j planned few ∙ (λ i. none i ++ []))
+          phase_offers o.relid plan j planned few ∙ (λ i. (none_later o.relid (phase_of plan j) (other_relids plan phase j o planned in_plan low fact.known few off)) i ++ []))
           (phase_offers o.relid plan phase planned in_plan ∙ ap (λ os. offers_in o.relid (laters os) ++ []) cut.at.phase_is ∙ (λ i. one i ++ [])),
     )
 
@@ -450,8 +300,9 @@ said_offer_once : (plan : BusPlan) (phase place : ℕ) (o : Opening) (posted : L
     → filter (is_offer_of o.relid) posted ≡ offer_of o ∷ []
 said_offer_once plan phase place o posted planned is later said =
     let offers = offered_once plan phase place o planned is later in
-    ap (filter (is_offer_of o.relid)) said ∙ between (is_offer_of o.relid) (host_contacts plan) (flat_map (host_in_phase plan) plan.phases) (from_3_0 plan (farewell_taken ∷ [])) (offer_of o ∷ []) (offers_contact o.relid plan offers.0)
-    (if_said (is_offer_of o.relid) farewell_taken _ refl) offers.1
+    ap (filter (is_offer_of o.relid)) said ∙ between (is_offer_of o.relid) (host_contacts plan) (flat_map (host_in_phase plan) plan.phases) (from_3_0 plan (farewell_taken ∷ [])) (offer_of o ∷ [])
+    (none_pass (is_offer_of o.relid) (host_contacts plan) (host_contact (λ m. is_offer_of o.relid m ≡ false) plan (λ n. refl) (none_before o.relid 1 plan.kinds (let above = offers.0 in omega (arith, above))) refl))
+    (none_pass (is_offer_of o.relid) (from_3_0 plan (farewell_taken ∷ [])) (only_if (λ m. is_offer_of o.relid m ≡ false) _ (farewell_taken ∷ []) (refl, tt))) offers.1
 
 no_service : (o : Opening) (dialed : Option ℕ) → o.dialed ≡ dialed → Alone o → is_sub o ≡ true → offer_of o ≡ offer_sub o
 no_service o None is alone sub = ap (offer_by o) is

@@ -1,12 +1,8 @@
 -- A page list comes in pieces.
 use Rattle.std.proofs.Common.{◌≡◌, ◌∙◌, ℕ, ◌+◌, ◌≤◌, ◌==◌, true, false, List, [], ◌∷◌, ◌++◌, length, drop, Option, Some, None, if◌then◌else◌, refl, sym, ap, subst}
 use Rattle.std.specs.List.{AllByRecursion}
-use Rattle.vmbus_msg.specs.declared.msg.Msg.{Msg}
-use Rattle.vmbus_msg.specs.declared.msg.Msg.TheVariants.{GpadlHeader, GpadlBody}
-use Rattle.vmbus_msg.specs.declared.gpadl_body.GpadlBody.{GpadlBody as Body}
-use Rattle.gpadl.specs.Cut.{AreBodiesOf, AreMessagesOf, cut}
-use Rattle.gpadl.specs.Assembly.{Partial, Assembly, is_live, built, begun, with_frames, body_fault, fault_of}
-use Rattle.gpadl.specs.Whole.{settled, next, whole, whole_lists, after, AreTaken, Assemble}
+use Rattle.control_laws.proofs.Words.{Msg, GpadlHeader, GpadlBody, Body, AreBodiesOf, AreMessagesOf, Partial, Assembly, is_live, built, begun, with_frames, body_fault, fault_of, settled, next, whole, whole_lists, after, AreTaken, Assemble}
+use Rattle.gpadl.specs.Cut.{cut}
 use Rattle.gpadl.proofs.Bodies.{cut_made}
 use Rattle.gpadl.proofs.Cutting.{cuts_well}
 use Rattle.control_model.specs.HostAt.{live_ones}
@@ -95,8 +91,7 @@ is_last relid handle pages live s m ms p pieces is e =
 -- where a piece follows, it doesn't, and the list goes on
 pub piece_more : (relid handle : ℕ) (pages live : List ℕ) (s : Assembly) (m n : Msg) (ms : List Msg) → Piecewise relid handle pages live s m (n ∷ ms) → Piecewise relid handle pages live (next s m) n ms
 piece_more relid handle pages live s m n ms pieces =
-    let fine = pieces.assemble.taken.0 in
-    let made = piece_built s m relid pieces.first fine in
+    let made = piece_built s m relid pieces.first pieces.assemble.taken.0 in
     by_test {P = Piecewise relid handle pages live (next s m) n ms} (length made.list.pages == made.list.want)
     (λ e. let last = is_last relid handle pages live s m (n ∷ ms) made.list pieces made.is e in let none : (n ∷ ms) ≡ [] = last.empty in absurd (cc))
     (λ e.

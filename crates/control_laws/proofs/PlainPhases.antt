@@ -2,7 +2,7 @@
 use Rattle.std.proofs.Common.{◌≡◌, ◌∙◌, false, cond, List, [], ◌∷◌, ◌++◌, length, map, if◌then◌else◌, refl, sym, ap, arith}
 use Rattle.std.specs.List.{flat_map}
 use Rattle.std.proofs.lemmas.List.Concat.{flat_map-cons}
-use Rattle.control_model.specs.declared.opening.Opening.{Opening}
+use Rattle.control_laws.proofs.Words.{Opening}
 use Rattle.control_model.specs.Plan.{is_sub, first_subs, subs_next, laters, behind_subs, in_closing_order, all_openings}
 use Rattle.control_model.specs.Messages.{offer_sub, close, teardown, torndown, rescind, release}
 use Rattle.control_model.specs.Said.{guest_empties, host_empties, guest_opens, host_opens, host_opens_all, guest_closes, host_closes, guest_moves, host_moves}
@@ -27,9 +27,7 @@ next_none o os none = ap (λ b. if b then [] else first_subs os) none.0 ∙ firs
 pub opens_plain : (os : List Opening) → NoSubs os → host_opens_all os ≡ flat_map host_opens os
 opens_plain [] none = refl
 opens_plain (o ∷ os) none =
-    let rest = opens_plain os none.1 in
-    let none_next = next_none o os none in
-    (λ i. host_opens o ++ (map offer_sub (none_next i) ++ rest i)) ∙ sym (flat_map-cons host_opens o os)
+    (λ i. host_opens o ++ (map offer_sub ((next_none o os none) i) ++ (opens_plain os none.1) i)) ∙ sym (flat_map-cons host_opens o os)
 
 guest_one : (o : Opening) → is_sub o ≡ false → guest_closes o ≡ guest_closes_one o
 guest_one o none = ap (λ b. if o.rescinded then release o.relid ∷ [] else guest_empties o ++ (close o.relid ∷ teardown o ∷ (if b then release o.relid ∷ [] else []))) none
@@ -40,25 +38,19 @@ host_one o none = ap (λ b. if o.rescinded then rescind o.relid ∷ [] else host
 guest_all : (os : List Opening) → NoSubs os → flat_map guest_closes os ≡ flat_map guest_closes_one os
 guest_all [] none = refl
 guest_all (o ∷ os) none =
-    let one = guest_one o none.0 in
-    let rest = guest_all os none.1 in
-    flat_map-cons guest_closes o os ∙ (λ i. one i ++ rest i) ∙ sym (flat_map-cons guest_closes_one o os)
+    flat_map-cons guest_closes o os ∙ (λ i. (guest_one o none.0) i ++ (guest_all os none.1) i) ∙ sym (flat_map-cons guest_closes_one o os)
 
 host_all : (os : List Opening) → NoSubs os → flat_map host_closes os ≡ flat_map host_closes_one os
 host_all [] none = refl
 host_all (o ∷ os) none =
-    let one = host_one o none.0 in
-    let rest = host_all os none.1 in
-    flat_map-cons host_closes o os ∙ (λ i. one i ++ rest i) ∙ sym (flat_map-cons host_closes_one o os)
+    flat_map-cons host_closes o os ∙ (λ i. (host_one o none.0) i ++ (host_all os none.1) i) ∙ sym (flat_map-cons host_closes_one o os)
 
 pub plain_guest : PlainGuest
 plain_guest plan os none = ap (λ xs. flat_map guest_opens os ++ (guest_moves plan os ++ flat_map guest_closes xs)) (same_order os none) ∙ ap (λ xs. flat_map guest_opens os ++ (guest_moves plan os ++ xs)) (guest_all os none)
 
 pub plain_host : PlainHost
 plain_host plan os none =
-    let opens = opens_plain os none in
-    let closes : flat_map host_closes (in_closing_order os) ≡ flat_map host_closes_one os = ap (flat_map host_closes) (same_order os none) ∙ host_all os none in
-    (λ i. opens i ++ (host_moves plan os ++ closes i))
+    (λ i. (opens_plain os none) i ++ (host_moves plan os ++ (ap (flat_map host_closes) (same_order os none) ∙ host_all os none) i))
 
 none_in : (os : List Opening) → NoLater os → laters os ≡ []
 none_in [] none = refl

@@ -1,17 +1,16 @@
 -- What a plan says of an opening at its place.
-use Rattle.std.proofs.Common.{◌≡◌, ◌≢◌, ◌∙◌, ℕ, zero, suc, ◌+◌, ◌<◌, ◌≤◌, ◌==◌, ◌&&◌, ◌||◌, is_some, Bool, true, false, cond, if◌then◌else◌, List, [], ◌∷◌, ◌++◌, length, map, take, drop, get_or, slice_get, slice_index_or, Option, Some, None, All, refl, sym, ap, subst, append_assoc, length-append, arith}
+use Rattle.std.proofs.Common.{◌≡◌, ◌≢◌, ◌∙◌, ℕ, zero, suc, ◌+◌, ◌<◌, ◌≤◌, ◌==◌, ◌&&◌, ◌||◌, is_some, Bool, true, false, if◌then◌else◌, List, [], ◌∷◌, ◌++◌, length, map, take, drop, get_or, slice_get, slice_index_or, Option, Some, None, All, refl, sym, ap, subst, append_assoc, length-append, arith}
 use Rattle.std.specs.List.{AllByRecursion, range_with_len}
 use Rattle.std.proofs.lemmas.List.Elements.{All-get_or}
 use Rattle.std.proofs.lemmas.Bool.{eqb-true}
-use Rattle.control_model.specs.declared.opening.Opening.{Opening}
-use Rattle.control_model.specs.declared.channel.Channel.{Channel}
+use Rattle.control_laws.proofs.Words.{Opening, Channel}
 use Rattle.control_model.specs.Plan.{BusPlan, is_sub, is_later, first_subs, subs_next, Bare, firsts, laters, in_closing_order, opening_at, closing_of, closing_at, IsOpening, Rising, Follows, RescindsEnd, all_openings, first_gpadl, is_buffer, lists_with, lists_of, pages_of, IsPlan, phase_of}
 use Rattle.control_model.specs.Channels.{is_handle}
 use Rattle.control_model.specs.Said.{ends_given_back}
-use Rattle.control_model.specs.Stand.{At, EndsAt, offered_before, offered_by, offered_for, count_dialed, guest_ends, guest_before, has_list}
+use Rattle.control_model.specs.Stand.{At, EndsAt, offered_before, offered_for, count_dialed, guest_ends, guest_before, has_list}
 use Rattle.control_laws.proofs.Marks.{by_test, differ, marked_has}
 use Rattle.control_laws.proofs.Closing.{all_closing, Distinct, distinct_closing, distinct_mid}
-use Rattle.control_laws.proofs.Cutting.{all_weaker, mid_all, openings_more, openings_cut, by_all}
+use Rattle.control_laws.proofs.Cutting.{all_weaker, mid_all, openings_more, openings_cut, by_all, both, all_front}
 use Rattle.control_laws.proofs.Relids.{later_is, sub_later, phase_relids, subs_before, sub_place}
 
 -- the first of what follows
@@ -116,8 +115,7 @@ first_of plan k = first_gpadl + lists_in (all_openings (take k plan.phases))
 
 first_more : (plan : BusPlan) (k : ℕ) → k < length plan.phases → first_of plan (suc k) ≡ first_of plan k + lists_in (phase_of plan k)
 first_more plan k less =
-    let e : lists_in (all_openings (take (suc k) plan.phases)) ≡ lists_in (all_openings (take k plan.phases)) + lists_in (phase_of plan k) = ap lists_in (openings_more plan.phases k less) ∙ lists_more (all_openings (take k plan.phases)) (phase_of plan k) in
-    omega (arith, e)
+    omega (arith, ap lists_in (openings_more plan.phases k less) ∙ lists_more (all_openings (take k plan.phases)) (phase_of plan k))
 
 phase_follows : (plan : BusPlan) (k : ℕ) → IsPlan plan → k < length plan.phases → FollowsBehind (first_of plan k) (phase_of plan k)
 phase_follows plan k planned less =
@@ -200,16 +198,11 @@ off_buffers : (o : Opening) (h : ℕ) (b : Bool) → o.buffers ≡ b → ((o.gpa
 off_buffers o h false none off = ap (λ c. c && ((o.gpadl + 1 == h) || (o.gpadl + 2 == h))) none
 off_buffers o h true has off =
     let three : lists_of o ≡ 3 = ap lists_with has in
-    let one = differ (o.gpadl + 1) h (λ e. off (omega (arith, e)) (omega (arith, e, three))) in
-    let two = differ (o.gpadl + 2) h (λ e. off (omega (arith, e)) (omega (arith, e, three))) in
-    (λ i. has i && (one i || two i))
+    (λ i. has i && ((differ (o.gpadl + 1) h (λ e. off (omega (arith, e)) (omega (arith, e, three)))) i || (differ (o.gpadl + 2) h (λ e. off (omega (arith, e)) (omega (arith, e, three)))) i))
 
 off_list : (o : Opening) (h : ℕ) → ((o.gpadl ≤ h) → (h < o.gpadl + lists_of o) → ⊥) → has_list o h ≡ false
 off_list o h off =
-    let some = some_lists o.buffers in
-    let rings = differ o.gpadl h (λ e. off (omega (arith, e)) (omega (arith, e, some))) in
-    let buffers = off_buffers o h o.buffers refl off in
-    (λ i. rings i || buffers i)
+    (λ i. (differ o.gpadl h (λ e. off (omega (arith, e)) (omega (arith, e, some_lists o.buffers)))) i || (off_buffers o h o.buffers refl off) i)
 
 apart_by : (o p : Opening) → o.gpadl + lists_of o ≤ p.gpadl → Apart o p
 apart_by o p less h is = let here = in_list o h is in off_list p h (λ low high. absurd (omega (arith, here.1, less, low)))
@@ -231,10 +224,6 @@ spaced gpadl page (o ∷ os) follows =
       ((λ off. absurd (off refl)), all_weaker In (λ q. q.gpadl ≢ o.gpadl → Apart o q) (λ q b off. let low = b.0 in apart_by o q (omega (arith, low, mine))) os ahead),
       both In (λ p. AllByRecursion (λ q. q.gpadl ≢ p.gpadl → Apart p q) os) (λ p. AllByRecursion (λ q. q.gpadl ≢ p.gpadl → Apart p q) (o ∷ os)) (λ p b all. ((λ off. let low = b.0 in apart_back o p (omega (arith, low, mine))), all)) os ahead rest,
     )
-  where
-    both : (P Q R : Opening → Type 0) → ((o : Opening) → P o → Q o → R o) → (os : List Opening) → AllByRecursion P os → AllByRecursion Q os → AllByRecursion R os
-    both P Q R f [] p q = tt
-    both P Q R f (o ∷ os) p q = (f o p.0 q.0, both P Q R f os p.1 q.1)
 
 -- what a plan says of all openings of a phase, in some order
 pub record PhaseHas (plan : BusPlan) (phase : ℕ) (os : List Opening) : Type 0 where
@@ -254,20 +243,13 @@ or_false false b e f = f
 pub not_given_back : (plan : BusPlan) (j k : ℕ) → IsPlan plan → j < k → k < length plan.phases → AllByRecursion (λ q. AllByRecursion (λ p. p.relid ≡ q.relid → ends_given_back q ≡ false) (phase_of plan k)) (phase_of plan j)
 not_given_back plan j k planned less few =
     let ps : List Opening = phase_of plan k in
-    let later = (phase_relids plan k planned few).fresh in
-    let low = subs_before plan j k planned less (omega (arith, few)) in
-    let ends = earlier_ends plan j k planned less few in
     both (λ q. AllByRecursion (λ p. p.relid ≡ q.relid → q.rescinded ≡ false) ps) (λ q. is_later q ≡ true → (length plan.kinds < q.relid) × (q.relid ≤ offered_before plan k)) (λ q. AllByRecursion (λ p. p.relid ≡ q.relid → ends_given_back q ≡ false) ps)
     (λ q all sub. both (λ p. p.relid ≡ q.relid → q.rescinded ≡ false) (λ p. (is_later p ≡ false → p.relid ≤ length plan.kinds) × (is_later p ≡ true → offered_before plan k < p.relid)) (λ p. p.relid ≡ q.relid → ends_given_back q ≡ false)
     (λ p gone fresh e. or_false q.rescinded (is_sub q) (gone e) (by_test {P = is_sub q ≡ false} (is_sub q)
     (λ t. let bounds = sub (sub_later q t) in let above = bounds.0 in let below = bounds.1 in by_test {P = is_sub q ≡ false} (is_later p)
     (λ it. let far = fresh.1 it in absurd (omega (arith, far, below, e)))
     (λ it. let near = fresh.0 it in absurd (omega (arith, near, above, e))))
-    (λ t. t))) ps all later) (phase_of plan j) ends low
-  where
-    both : (P Q R : Opening → Type 0) → ((o : Opening) → P o → Q o → R o) → (os : List Opening) → AllByRecursion P os → AllByRecursion Q os → AllByRecursion R os
-    both P Q R f [] p q = tt
-    both P Q R f (o ∷ os) p q = (f o p.0 q.0, both P Q R f os p.1 q.1)
+    (λ t. t))) ps all ((phase_relids plan k planned few).fresh)) (phase_of plan j) (earlier_ends plan j k planned less few) (subs_before plan j k planned less (omega (arith, few)))
 
 pub phase_has : (plan : BusPlan) (phase : ℕ) → IsPlan plan → phase < length plan.phases → PhaseHas plan phase (phase_of plan phase)
 phase_has plan phase planned less =
@@ -316,8 +298,7 @@ facts_in : (plan : BusPlan) (phase : ℕ) (done : List Opening) (o : Opening) (l
 facts_in plan phase done o left has =
     let apart = distinct_mid (λ p. p.relid) done o left has.relids in
     let other = distinct_mid (λ p. p.gpadl) done o left has.handles in
-    let lists = mid_all (λ p. AllByRecursion (λ q. q.gpadl ≢ p.gpadl → Apart p q) (done ++ o ∷ left)) done o left has.lists in
-    let parts = cut_all (λ q. q.gpadl ≢ o.gpadl → Apart o q) done o left lists in
+    let parts = all_front (λ q. q.gpadl ≢ o.gpadl → Apart o q) done (o ∷ left) (mid_all (λ p. AllByRecursion (λ q. q.gpadl ≢ p.gpadl → Apart p q) (done ++ o ∷ left)) done o left has.lists) in
     record {
       fits = mid_all IsOpening done o left has.fits;
       known = mid_all (λ p. p.relid ≤ offered_before plan (suc phase)) done o left has.known;
@@ -325,19 +306,11 @@ facts_in plan phase done o left has =
       left_apart = apart.1;
       done_handles = other.0;
       left_handles = other.1;
-      done_lists = with_all (λ q. q.gpadl ≢ o.gpadl) (λ q. Apart o q) done other.0 parts.0;
-      left_lists = with_all (λ q. q.gpadl ≢ o.gpadl) (λ q. Apart o q) left other.1 parts.1;
+      done_lists = both (λ q. q.gpadl ≢ o.gpadl) (λ q. q.gpadl ≢ o.gpadl → Apart o q) (λ q. Apart o q) (λ q off apart. apart off) done other.0 parts.0;
+      left_lists = both (λ q. q.gpadl ≢ o.gpadl) (λ q. q.gpadl ≢ o.gpadl → Apart o q) (λ q. Apart o q) (λ q off apart. apart off) left other.1 parts.1.1;
       not_before = λ j less. all_weaker (λ q. AllByRecursion (λ p. p.relid ≡ q.relid → ends_given_back q ≡ false) (done ++ o ∷ left)) (λ q. q.relid ≡ o.relid → ends_given_back q ≡ false) (λ q all e. mid_all (λ p. p.relid ≡ q.relid → ends_given_back q ≡ false) done o left all (sym e)) (phase_of plan j) (has.not_before j less);
       before_handles = mid_all (λ p. (vps : ℕ → ℕ) (relid : ℕ) → is_handle p.gpadl (guest_before vps plan phase relid).gpadl ≡ false) done o left has.before_handles;
     }
-  where
-    cut_all : (P : Opening → Type 0) (done : List Opening) (o : Opening) (left : List Opening) → AllByRecursion P (done ++ o ∷ left) → AllByRecursion P done × AllByRecursion P left
-    cut_all P [] o left all = (tt, all.1)
-    cut_all P (p ∷ done) o left all = let rest = cut_all P done o left all.1 in ((all.0, rest.0), rest.1)
-
-    with_all : (P Q : Opening → Type 0) (os : List Opening) → AllByRecursion P os → AllByRecursion (λ q. P q → Q q) os → AllByRecursion Q os
-    with_all P Q [] p q = tt
-    with_all P Q (o ∷ os) p q = (q.0 p.0, with_all P Q os p.1 q.1)
 
 pub facts : (plan : BusPlan) (phase place : ℕ) (done : List Opening) (o : Opening) (left : List Opening) → IsPlan plan → At plan phase place done o left → Facts plan phase done o left
 facts plan phase place done o left planned at = facts_in plan phase done o left (subst (PhaseHas plan phase) at.phase_is (phase_has plan phase planned at.in_plan))

@@ -4,13 +4,13 @@ use Rattle.std.specs.List.{AllByRecursion, range_with_len}
 use Rattle.std.proofs.lemmas.List.{take_all}
 use Rattle.std.proofs.lemmas.List.Elements.{All-get_or, filter-append}
 use Rattle.std.proofs.lemmas.Bool.Decides.{nat_tests}
-use Rattle.control_model.specs.declared.opening.Opening.{Opening}
+use Rattle.control_laws.proofs.Words.{Opening}
 use Rattle.control_model.specs.Plan.{BusPlan, IsPlan, Rising, at_contact, is_later, is_sub, firsts, laters, phase_of, all_openings}
 use Rattle.control_model.specs.Said.{channel_count}
 use Rattle.control_model.specs.Stand.{offered_before}
-use Rattle.control_laws.proofs.Marks.{by_test}
+use Rattle.control_laws.proofs.Marks.{by_test, or_true}
 use Rattle.control_laws.proofs.Closing.{Distinct}
-use Rattle.control_laws.proofs.Cutting.{all_weaker, openings_more, openings_cut, above, by_all}
+use Rattle.control_laws.proofs.Cutting.{all_weaker, openings_more, openings_cut, above, by_all, both}
 
 -- a list with these relids, cut in two
 pub record Cut (a : ℕ) (xs ys : List Opening) : Type 0 where
@@ -60,10 +60,6 @@ later_is o = or_right (is_some o.dialed) (o.sub == 0)
 
 pub sub_later : (o : Opening) → is_sub o ≡ true → is_later o ≡ true
 sub_later o e = later_is o ∙ ap (λ b. is_some o.dialed || b) e ∙ or_true (is_some o.dialed)
-  where
-    or_true : (a : Bool) → (a || true) ≡ true
-    or_true true = refl
-    or_true false = refl
 
 pub dialed_later : (o : Opening) → is_some o.dialed ≡ true → is_later o ≡ true
 dialed_later o e = later_is o ∙ ap (λ b. b || is_sub o) e
@@ -107,15 +103,13 @@ sub_at_one : (a : ℕ) (p o : Opening) (done left : List Opening) (b : Bool) →
     → relids (cond b (p ∷ laters (done ++ o ∷ left)) (laters (done ++ o ∷ left))) ≡ range_with_len a (length (cond b (p ∷ laters (done ++ o ∷ left)) (laters (done ++ o ∷ left)))) → o.relid ≡ a + length (cond b (p ∷ laters done) (laters done))
 sub_at_one a p o done left true rest e =
     let more : relids (laters (done ++ o ∷ left)) ≡ range_with_len (a + 1) (length (laters (done ++ o ∷ left))) = cc in
-    let is = rest (a + 1) more in
-    omega (arith, is)
+    omega (arith, rest (a + 1) more)
 sub_at_one a p o done left false rest e = rest a e
 
 pub sub_place : (a : ℕ) (done : List Opening) (o : Opening) (left : List Opening) → is_later o ≡ true → relids (laters (done ++ o ∷ left)) ≡ range_with_len a (length (laters (done ++ o ∷ left))) → o.relid ≡ a + length (laters done)
 sub_place a [] o left sub e =
-    let here : laters (o ∷ left) ≡ o ∷ laters left = ap (λ b. cond b (o ∷ laters left) (laters left)) sub in
     let P : List Opening → Type 0 = λ xs. relids xs ≡ range_with_len a (length xs) in
-    let there : P (o ∷ laters left) = subst P here e in
+    let there : P (o ∷ laters left) = subst P (ap (λ b. cond b (o ∷ laters left) (laters left)) sub) e in
     let first : o.relid ≡ a = cc in
     omega (arith, first)
 sub_place a (p ∷ done) o left sub e = sub_at_one a p o done left (is_later p) (λ b f. sub_place b done o left sub f) e
@@ -140,10 +134,8 @@ pub record PhaseRelids (plan : BusPlan) (k : ℕ) : Type 0 where
 
 pub offered_more : (plan : BusPlan) (k : ℕ) → k < length plan.phases → offered_before plan (suc k) ≡ offered_before plan k + length (laters (phase_of plan k))
 offered_more plan k less =
-    let more = ap (λ os. length (laters os)) (openings_more plan.phases k less) in
-    let parts = ap length (filter-append is_later (all_openings (take k plan.phases)) (phase_of plan k)) in
     let sum = length-append (laters (all_openings (take k plan.phases))) (laters (phase_of plan k)) in
-    omega (arith, more, parts, sum)
+    omega (arith, (ap (λ os. length (laters os)) (openings_more plan.phases k less)), ap length (filter-append is_later (all_openings (take k plan.phases)) (phase_of plan k)), sum)
 
 pub phase_relids : (plan : BusPlan) (k : ℕ) → IsPlan plan → k < length plan.phases → PhaseRelids plan k
 phase_relids plan k planned less =
@@ -192,13 +184,8 @@ known_before plan j k planned less few =
 
 pub subs_before : (plan : BusPlan) (j k : ℕ) → IsPlan plan → j < k → k ≤ length plan.phases → AllByRecursion (λ q. is_later q ≡ true → (length plan.kinds < q.relid) × (q.relid ≤ offered_before plan k)) (phase_of plan j)
 subs_before plan j k planned less few =
-    let here = phase_relids plan j planned (omega (arith, less, few)) in
     both (λ p. (is_later p ≡ false → p.relid ≤ length plan.kinds) × (is_later p ≡ true → offered_before plan j < p.relid)) (λ p. p.relid ≤ offered_before plan k) (λ q. is_later q ≡ true → (length plan.kinds < q.relid) × (q.relid ≤ offered_before plan k))
-    (λ q fresh known it. let far = fresh.1 it in (omega (arith, far), known)) (phase_of plan j) here.fresh (known_before plan j k planned less few)
-  where
-    both : (P Q R : Opening → Type 0) → ((o : Opening) → P o → Q o → R o) → (os : List Opening) → AllByRecursion P os → AllByRecursion Q os → AllByRecursion R os
-    both P Q R f [] p q = tt
-    both P Q R f (o ∷ os) p q = (f o p.0 q.0, both P Q R f os p.1 q.1)
+    (λ q fresh known it. let far = fresh.1 it in (omega (arith, far), known)) (phase_of plan j) (phase_relids plan j planned (omega (arith, less, few))).fresh (known_before plan j k planned less few)
 
 -- before the farewell all channels of the plan were offered
 pub all_offered : (plan : BusPlan) → offered_before plan (length plan.phases) ≡ channel_count plan

@@ -1,23 +1,19 @@
 -- What holds of a channel that a phase rescinds, and of a sub-channel, at the end.
-use Rattle.std.proofs.Common.{◌≡◌, ◌∙◌, ℕ, suc, ◌≤◌, length, ◌==◌, ◌&&◌, ◌||◌, Bool, true, false, List, ◌∷◌, ◌++◌, Some, if◌then◌else◌, refl, ap, arith}
+use Rattle.std.proofs.Common.{◌≡◌, ◌∙◌, ℕ, suc, ◌≤◌, length, ◌==◌, ◌&&◌, ◌||◌, Bool, true, List, ◌∷◌, ◌++◌, Some, if◌then◌else◌, refl, ap, arith}
 use Rattle.std.specs.List.{list_any}
 use Rattle.std.proofs.lemmas.List.Folds.{list_any-append}
-use Rattle.chan_state.specs.declared.state.State.TheVariants.{Offered, Closed, Released}
-use Rattle.control_model.specs.declared.opening.Opening.{Opening}
-use Rattle.control_model.specs.Plan.{BusPlan, IsPlan, is_sub, opening_at, all_openings}
+use Rattle.control_laws.proofs.Words.{Closed, Released, Opening}
+use Rattle.chan_state.specs.declared.state.State.TheVariants.{Offered}
+use Rattle.control_model.specs.Plan.{BusPlan, IsPlan, is_sub, opening_at}
 use Rattle.control_model.specs.Said.{ends_given_back, is_given_back, is_opened, channel_count, last_state}
 use Rattle.control_model.specs.Guest.{GuestSeen, state_of}
 use Rattle.control_model.specs.Host.{HostSeen, host_state_of}
 use Rattle.control_laws.specs.Over.{IsOver}
 use Rattle.control_laws.specs.Laws.{RescindedAreReleased, SubsAreReleased}
-use Rattle.control_laws.proofs.Marks.{same}
+use Rattle.control_laws.proofs.Marks.{same, or_true}
 use Rattle.control_laws.proofs.Relids.{offered_grows, all_offered}
 use Rattle.control_laws.proofs.Plans.{cut_at, facts}
 use Rattle.control_laws.proofs.States.{each_law}
-
-or_true : (a : Bool) → (a || true) ≡ true
-or_true true = refl
-or_true false = refl
 
 any_here : (test : Opening → Bool) (before : List Opening) (done : List Opening) (o : Opening) (left after : List Opening) → test o ≡ true → list_any test (before ++ ((done ++ o ∷ left) ++ after)) ≡ true
 any_here test before done o left after is =
@@ -33,11 +29,8 @@ given_back plan g h phase place o planned over is gone =
     let each = each_law plan g h over in
     let test : Opening → Bool = λ p. (p.relid == o.relid) && ends_given_back p in
     let here : test o ≡ true = rw (same o.relid, gone) refl in
-    let whole : all_openings plan.phases ≡ cut.before ++ ((cut.done ++ o ∷ cut.left) ++ cut.after) = cut.whole in
-    let up = offered_grows plan (suc phase) (length plan.phases) cut.at.in_plan (omega arith) in
-    let all = all_offered plan in
-    let known : o.relid ≤ channel_count plan = omega (arith, fact.known, up, all) in
-    let taken : is_given_back plan o.relid ≡ true = ap (list_any test) whole ∙ any_here test cut.before cut.done o cut.left cut.after here in
+    let known : o.relid ≤ channel_count plan = omega (arith, fact.known, offered_grows plan (suc phase) (length plan.phases) cut.at.in_plan (omega arith), all_offered plan) in
+    let taken : is_given_back plan o.relid ≡ true = ap (list_any test) cut.whole ∙ any_here test cut.before cut.done o cut.left cut.after here in
     let state : last_state plan o.relid ≡ Released = ap (λ b. if b then Released else if is_opened plan o.relid then Closed else Offered) taken in
     (each.guest_each o.relid fact.fits.named known ∙ ap (λ s. Some s) state, each.host_each o.relid fact.fits.named known ∙ ap (λ s. Some s) state)
 

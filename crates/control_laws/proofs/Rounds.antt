@@ -1,5 +1,5 @@
 -- Two sides that speak in turns: what a guest says, and what its host answers once all of that came.
-use Rattle.std.proofs.Common.{◌≡◌, ◌≢◌, ◌∙◌, ℕ, zero, suc, ◌+◌, ◌<◌, ◌≤◌, Bool, true, false, List, [], ◌∷◌, ◌++◌, length, drop, nat_le, refl, sym, ap, subst, length-append, arith}
+use Rattle.std.proofs.Common.{◌≡◌, ◌∙◌, ℕ, zero, suc, ◌+◌, ◌<◌, ◌≤◌, List, [], ◌∷◌, ◌++◌, length, drop, nat_le, refl, sym, ap, length-append, arith}
 use Rattle.std.proofs.lemmas.Bool.Decides.{nat_tests}
 use Rattle.control_laws.proofs.Marks.{by_place, by_test}
 use Rattle.control_laws.proofs.Saying.{drop_done}
@@ -12,21 +12,15 @@ pub record Round : Type 0 where
 abbrev pub round : ℕ → ℕ → Round
 round asked answered = record { asked = asked; answered = answered }
 
+abbrev pub total : (Round → ℕ) → List Round → ℕ
+total f [] = 0
+total f (r ∷ rs) = f r + total f rs
+
 abbrev pub asks : List Round → ℕ
-asks [] = 0
-asks (r ∷ rs) = r.asked + asks rs
+asks = total (λ r. r.asked)
 
 abbrev pub answers : List Round → ℕ
-answers [] = 0
-answers (r ∷ rs) = r.answered + answers rs
-
-pub asks_join : (xs ys : List Round) → asks (xs ++ ys) ≡ asks xs + asks ys
-asks_join [] ys = omega arith
-asks_join (x ∷ xs) ys = let rest = asks_join xs ys in omega (arith, rest)
-
-pub answers_join : (xs ys : List Round) → answers (xs ++ ys) ≡ answers xs + answers ys
-answers_join [] ys = omega arith
-answers_join (x ∷ xs) ys = let rest = answers_join xs ys in omega (arith, rest)
+answers = total (λ r. r.answered)
 
 -- in two rounds, one behind the other, each side says one message at least, and 32 at most
 pub record Pair (r s : Round) : Type 0 where
@@ -52,30 +46,23 @@ pub first_by : (P : Round → Type 0) (r : Round) (rs : List Round) → r.asked 
 first_by P r [] a b pairs leads = (a, b)
 first_by P r (s ∷ rs) a b pairs leads = pairs s leads
 
-few_first : (r : Round) (rs : List Round) → First r rs → (r.asked ≤ 32) × (r.answered ≤ 32)
-few_first r [] few = few
-few_first r (s ∷ rs) few = let a = few.few_asked in let b = few.few_answered in (omega (arith, a), omega (arith, b))
-
 -- what is left from a round on
-pub asks_down : (R : List Round) (m n : ℕ) → m ≤ n → asks (drop n R) ≤ asks (drop m R)
-asks_down [] zero zero less = omega arith
-asks_down [] zero (suc n) less = omega arith
-asks_down [] (suc m) zero less = omega arith
-asks_down [] (suc m) (suc n) less = omega arith
-asks_down (r ∷ R) zero zero less = omega arith
-asks_down (r ∷ R) zero (suc n) less = let rest = asks_down R zero n (omega arith) in omega (arith, rest)
-asks_down (r ∷ R) (suc m) zero less = absurd (omega (arith, less))
-asks_down (r ∷ R) (suc m) (suc n) less = asks_down R m n (omega (arith, less))
+total_drop : (f : Round → ℕ) (R : List Round) (n : ℕ) → total f (drop n R) ≤ total f R
+total_drop f R zero = omega arith
+total_drop f [] (suc n) = omega arith
+total_drop f (r ∷ R) (suc n) = omega (arith, total_drop f R n)
 
-pub answers_down : (R : List Round) (m n : ℕ) → m ≤ n → answers (drop n R) ≤ answers (drop m R)
-answers_down [] zero zero less = omega arith
-answers_down [] zero (suc n) less = omega arith
-answers_down [] (suc m) zero less = omega arith
-answers_down [] (suc m) (suc n) less = omega arith
-answers_down (r ∷ R) zero zero less = omega arith
-answers_down (r ∷ R) zero (suc n) less = let rest = answers_down R zero n (omega arith) in omega (arith, rest)
-answers_down (r ∷ R) (suc m) zero less = absurd (omega (arith, less))
-answers_down (r ∷ R) (suc m) (suc n) less = answers_down R m n (omega (arith, less))
+total_down : (f : Round → ℕ) (R : List Round) (m n : ℕ) → m ≤ n → total f (drop n R) ≤ total f (drop m R)
+total_down f R zero n less = total_drop f R n
+total_down f R (suc m) zero less = absurd (omega (arith, less))
+total_down f [] (suc m) (suc n) less = omega arith
+total_down f (r ∷ R) (suc m) (suc n) less = total_down f R m n (omega (arith, less))
+
+asks_down : (R : List Round) (m n : ℕ) → m ≤ n → asks (drop n R) ≤ asks (drop m R)
+asks_down = total_down (λ r. r.asked)
+
+answers_down : (R : List Round) (m n : ℕ) → m ≤ n → answers (drop n R) ≤ answers (drop m R)
+answers_down = total_down (λ r. r.answered)
 
 -- two rounds later each side has less to say, but not much less
 pub record Later (R : List Round) (m : ℕ) : Type 0 where
@@ -127,25 +114,17 @@ behind (f ∷ front) r rest = behind front r rest
 
 pub guest_in : (R front : List Round) (r : Round) (rest : List Round) (says hears : ℕ) → R ≡ front ++ r ∷ rest → says ≡ asks rest → answers rest < hears → hears ≤ r.answered + answers rest → GuestIn R says hears
 guest_in R front r rest says hears is said more most =
-    let long = ap length is in
-    let parts = length-append front (r ∷ rest) in
     let next : drop (suc (length front)) R ≡ rest = ap (drop (suc (length front))) is ∙ behind front r rest in
-    let here : drop (length front) R ≡ r ∷ rest = ap (drop (length front)) is ∙ drop_done front (r ∷ rest) in
-    let a = ap asks next in
     let b = ap answers next in
-    let c = ap answers here in
-    record { at = length front; less = omega (arith, long, parts); said = omega (arith, said, a); more = omega (arith, more, b); most = omega (arith, most, c) }
+    let c = ap answers (ap (drop (length front)) is ∙ drop_done front (r ∷ rest)) in
+    record { at = length front; less = omega (arith, ap length is, length-append front (r ∷ rest)); said = omega (arith, said, ap asks next); more = omega (arith, more, b); most = omega (arith, most, c) }
 
 pub host_in : (R front : List Round) (r : Round) (rest : List Round) (says hears : ℕ) → R ≡ front ++ r ∷ rest → says ≡ r.answered + answers rest → asks rest < hears → hears ≤ r.asked + asks rest → HostIn R says hears
 host_in R front r rest says hears is said more most =
-    let long = ap length is in
-    let parts = length-append front (r ∷ rest) in
-    let next : drop (suc (length front)) R ≡ rest = ap (drop (suc (length front))) is ∙ behind front r rest in
     let here : drop (length front) R ≡ r ∷ rest = ap (drop (length front)) is ∙ drop_done front (r ∷ rest) in
-    let a = ap asks next in
-    let b = ap asks here in
+    let a = ap asks (ap (drop (suc (length front))) is ∙ behind front r rest) in
     let c = ap answers here in
-    record { at = length front; less = omega (arith, long, parts); said = omega (arith, said, c); more = omega (arith, more, a); most = omega (arith, most, b) }
+    record { at = length front; less = omega (arith, ap length is, length-append front (r ∷ rest)); said = omega (arith, said, c); more = omega (arith, more, a); most = omega (arith, most, ap asks here) }
 
 -- so many messages are on their way then
 pub record OnWay (a b : ℕ) : Type 0 where
@@ -158,42 +137,30 @@ guest_waits : (R : List Round) (a b s t s' t' : ℕ) (g : GuestIn R s t) (h : Ho
 guest_waits R a b s t s' t' g h talk e f ahead =
     let p : ℕ = g.at in
     let q : ℕ = h.at in
-    let down = asks_down R (suc p) q ahead in
-    let answered = answers_down R (suc p) q ahead in
-    let none : a ≡ 0 = omega (arith, e, down, g.said, h.most) in
-    let some : 1 ≤ b = omega (arith, f, answered, g.more, h.said) in
+    let none : a ≡ 0 = omega (arith, e, asks_down R (suc p) q ahead, g.said, h.most) in
+    let some : 1 ≤ b = omega (arith, f, answers_down R (suc p) q ahead, g.more, h.said) in
     let near = nearly R p talk in
     by_place q (suc p)
     (λ at. let one = ap (λ n. answers (drop n R)) at in let few = near.one_answered in record { few_to_host = omega (arith, none); few_to_guest = omega (arith, f, one, few, g.most, h.said); some = omega (arith, some) })
     (λ off. by_place q (suc (suc p))
     (λ at. let one = ap (λ n. answers (drop n R)) at in let few = near.two_answered in record { few_to_host = omega (arith, none); few_to_guest = omega (arith, f, one, few, g.most, h.said); some = omega (arith, some) })
     (λ far.
-    let within = h.less in
-    let later = two_later R (suc p) talk (omega (arith, ahead, off, far, within)) in
-    let less = later.less_asked in
-    let rest = asks_down R (suc (suc (suc p))) q (omega (arith, ahead, off, far)) in
-    absurd (omega (arith, e, less, rest, g.said, h.most))))
+    absurd (omega (arith, e, (two_later R (suc p) talk (omega (arith, ahead, off, far, h.less))).less_asked, asks_down R (suc (suc (suc p))) q (omega (arith, ahead, off, far)), g.said, h.most))))
 
 -- the host waits: all that it said came
 host_waits : (R : List Round) (a b s t s' t' : ℕ) (g : GuestIn R s t) (h : HostIn R s' t') → Talk R → t' ≡ a + s → t ≡ b + s' → h.at ≤ g.at → OnWay a b
 host_waits R a b s t s' t' g h talk e f back =
     let p : ℕ = g.at in
     let q : ℕ = h.at in
-    let down = answers_down R q p back in
-    let asked = asks_down R (suc q) (suc p) (omega (arith, back)) in
-    let none : b ≡ 0 = omega (arith, f, down, g.most, h.said) in
-    let some : 1 ≤ a = omega (arith, e, asked, g.said, h.more) in
+    let none : b ≡ 0 = omega (arith, f, answers_down R q p back, g.most, h.said) in
+    let some : 1 ≤ a = omega (arith, e, asks_down R (suc q) (suc p) (omega (arith, back)), g.said, h.more) in
     let near = nearly R q talk in
     by_place p q
     (λ at. let one = ap (λ n. asks (drop (suc n) R)) at in let few = near.one_asked in record { few_to_host = omega (arith, e, one, few, g.said, h.most); few_to_guest = omega (arith, none); some = omega (arith, some) })
     (λ off. by_place p (suc q)
     (λ at. let one = ap (λ n. asks (drop (suc n) R)) at in let few = near.two_asked in record { few_to_host = omega (arith, e, one, few, g.said, h.most); few_to_guest = omega (arith, none); some = omega (arith, some) })
     (λ far.
-    let within = g.less in
-    let later = two_later R q talk (omega (arith, back, off, far, within)) in
-    let less = later.less_answered in
-    let rest = answers_down R (suc (suc q)) p (omega (arith, back, off, far)) in
-    absurd (omega (arith, f, less, rest, g.most, h.said))))
+    absurd (omega (arith, f, (two_later R q talk (omega (arith, back, off, far, g.less))).less_answered, answers_down R (suc (suc q)) p (omega (arith, back, off, far)), g.most, h.said))))
 
 pub on_way : (R : List Round) (a b s t s' t' : ℕ) → Talk R → GuestIn R s t → HostIn R s' t' → t' ≡ a + s → t ≡ b + s' → OnWay a b
 on_way R a b s t s' t' talk g h e f = by_test {P = OnWay a b} (nat_le (suc g.at) h.at)
@@ -209,9 +176,7 @@ last_heard R s t talk g none =
     by_test {P = (1 ≤ t) × (t ≤ 32)} (nat_le (suc (suc (suc p))) (length R))
     (λ yes.
     let less : suc (suc (suc p)) ≤ length R = grind (arith, nat_tests, yes) in
-    let later = two_later R (suc p) talk less in
-    let more = later.less_asked in
-    absurd (omega (arith, more, none, g.said)))
+    absurd (omega (arith, (two_later R (suc p) talk less).less_asked, none, g.said)))
     (λ no.
     let few : length R < suc (suc (suc p)) = grind (arith, nat_tests, no) in
     by_place (length R) (suc p)
@@ -223,17 +188,11 @@ last_heard R s t talk g none =
 pub last_asked : (R : List Round) (s t : ℕ) → Talk R → HostIn R s t → s ≡ 0 → (1 ≤ t) × (t ≤ 32)
 last_asked R s t talk h none =
     let q : ℕ = h.at in
-    let near = nearly R q talk in
-    let end = none_left R in
     by_test {P = (1 ≤ t) × (t ≤ 32)} (nat_le (suc (suc q)) (length R))
     (λ yes.
     let less : suc (suc q) ≤ length R = grind (arith, nat_tests, yes) in
-    let later = two_later R q talk less in
-    let more = later.less_answered in
-    absurd (omega (arith, more, none, h.said)))
+    absurd (omega (arith, (two_later R q talk less).less_answered, none, h.said)))
     (λ no.
     let few : length R < suc (suc q) = grind (arith, nat_tests, no) in
     let at : suc q ≡ length R = omega (arith, few, h.less) in
-    let one = ap (λ n. asks (drop n R)) at in
-    let most = near.one_asked in
-    (omega (arith, h.more), omega (arith, one, end.0, most, h.most)))
+    (omega (arith, h.more), omega (arith, (ap (λ n. asks (drop n R)) at), (none_left R).0, (nearly R q talk).one_asked, h.most)))

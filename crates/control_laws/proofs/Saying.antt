@@ -2,10 +2,8 @@
 use Rattle.std.proofs.Common.{◌≡◌, ◌∙◌, ℕ, zero, suc, ◌<◌, Bool, true, false, if◌then◌else◌, List, [], ◌∷◌, ◌++◌, length, drop, map, slice_index_or, None, refl, sym, ap, append_assoc, length-append, arith}
 use Rattle.std.specs.List.{flat_map}
 use Rattle.std.proofs.lemmas.List.Concat.{flat_map-cons}
-use Rattle.vmbus_msg.specs.declared.msg.Msg.{Msg}
+use Rattle.control_laws.proofs.Words.{Msg, Opening, Receive, Send}
 use Rattle.gpadl.specs.Cut.{cut}
-use Rattle.control_model.specs.declared.opening.Opening.{Opening}
-use Rattle.control_model.specs.declared.buffer.Buffer.TheVariants.{Receive, Send}
 use Rattle.control_model.specs.Plan.{BusPlan, buffer_list, subs_next, in_closing_order, phase_of, closing_of}
 use Rattle.control_model.specs.Messages.{pages_from, created, open_on, opened, offer_sub, close, teardown, teardown_buffer, torndown, rescind, release, farewell, farewell_taken}
 use Rattle.control_model.specs.Said.{dials, dial_offers, guest_lists, guest_buffers, host_buffers, guest_opens, host_opens_all, guest_closes, host_closes, guest_moves, host_moves, guest_in_phase, host_in_phase, from_3_0}
@@ -14,6 +12,19 @@ use Rattle.control_model.specs.HostAt.{closes_left, tears_left, host_end_to_say,
 use Rattle.control_model.specs.Stand.{At, EndsAt}
 use Rattle.control_laws.proofs.NextOne.{guest_waits, guest_next_awaits, guest_sends, guest_next_sends, host_waits, host_next_awaits, host_sends, host_next_sends}
 use Rattle.control_laws.proofs.Plans.{done_more, ends_more}
+
+-- what follows on the start of a phase, and on its openings
+abbrev pub guest_onward : BusPlan → ℕ → List Msg
+guest_onward plan phase = flat_map guest_closes (closing_of plan phase) ++ guest_from plan (suc phase)
+
+abbrev pub host_onward : BusPlan → ℕ → List Msg
+host_onward plan phase = flat_map host_closes (closing_of plan phase) ++ host_from plan (suc phase)
+
+abbrev pub guest_then : BusPlan → ℕ → List Msg
+guest_then plan phase = guest_moves plan (phase_of plan phase) ++ guest_onward plan phase
+
+abbrev pub host_then : BusPlan → ℕ → List Msg
+host_then plan phase = host_moves plan (phase_of plan phase) ++ host_onward plan phase
 
 -- behind those that are done, the others are left
 pub drop_done : {X : Type 0} (xs ys : List X) → drop (length xs) (xs ++ ys) ≡ ys

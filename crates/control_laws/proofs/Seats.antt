@@ -3,16 +3,15 @@ use Rattle.std.proofs.Common.{◌≡◌, ◌∙◌, ℕ, suc, ◌+◌, ◌-◌, 
 use Rattle.std.specs.List.{AllByRecursion, range_with_len}
 use Rattle.std.proofs.lemmas.Bool.{eqb-true}
 use Rattle.std.proofs.lemmas.List.Elements.{All-get_or, filter-append}
-use Rattle.control_model.specs.declared.opening.Opening.{Opening}
+use Rattle.control_laws.proofs.Words.{Opening}
 use Rattle.control_model.specs.Plan.{BusPlan, IsPlan, Seated, is_sub, is_later, is_of_sub, first_subs, subs_next, laters, phase_of}
 use Rattle.control_model.specs.GuestAt.{from_first_sub}
 use Rattle.control_model.specs.Stand.{At, offered_before, offered_by}
 use Rattle.control_laws.proofs.Marks.{by_test}
-use Rattle.control_laws.proofs.Cutting.{all_weaker}
+use Rattle.control_laws.proofs.Cutting.{all_weaker, all_front, all_snoc}
 use Rattle.control_laws.proofs.Relids.{sub_later, relids, phase_relids, sub_place}
 use Rattle.control_laws.proofs.Plans.{offered_here}
 use Rattle.control_laws.proofs.Counts.{done_known, dialed_few}
-use Rattle.control_laws.proofs.Handles.{all_front}
 use Rattle.control_laws.proofs.Saying.{left_at}
 
 abbrev pub AreSubs : List Opening → Type 0
@@ -25,17 +24,12 @@ not_false false e = absurd (cc)
 first_zero : (o : Opening) → is_sub o ≡ false → o.sub ≡ 0
 first_zero o e = eqb-true o.sub 0 (not_false (o.sub == 0) e)
 
-pub all_snoc : {X : Type 0} (P : X → Type 0) (xs : List X) (x : X) → AllByRecursion P xs → P x → AllByRecursion P (xs ++ x ∷ [])
-all_snoc P [] x all here = (here, tt)
-all_snoc P (y ∷ xs) x all here = (all.0, all_snoc P xs x all.1 here)
-
 -- a phase begins with a first channel
 pub starts_first : (os : List Opening) → Seated 0 os → first_subs os ≡ []
 starts_first [] seated = refl
 starts_first (o ∷ os) seated = by_test {P = first_subs (o ∷ os) ≡ []} (is_sub o)
     (λ e.
-    let none : o.sub ≡ 0 = seated.0 e in
-    let wrong : true ≡ false = sym e ∙ ap (λ n. not (n == 0)) none in
+    let wrong : true ≡ false = sym e ∙ ap (λ n. not (n == 0)) (seated.0 e) in
     absurd (cc))
     (λ e. ap (λ b. if b then o ∷ first_subs os else []) e)
 
@@ -46,9 +40,7 @@ seated_behind n (x ∷ xs) first ys seated = seated_behind (x.sub + 1) xs first 
 seated_run : (n : ℕ) (offered : List Opening) (o : Opening) (left : List Opening) → Seated n (offered ++ o ∷ left) → AreSubs (offered ++ o ∷ []) → o.sub ≡ n + length offered
 seated_run n [] o left seated subs = let is = seated.0 subs.0 in omega (arith, is)
 seated_run n (p ∷ offered) o left seated subs =
-    let first = seated.0 subs.0 in
-    let rest = seated_run (p.sub + 1) offered o left seated.1 subs.1 in
-    omega (arith, first, rest)
+    omega (arith, seated.0 subs.0, seated_run (p.sub + 1) offered o left seated.1 subs.1)
 
 pub phase_seated : (plan : BusPlan) (phase : ℕ) → IsPlan plan → phase < length plan.phases → Seated 0 (phase_of plan phase)
 phase_seated plan phase planned less = All-get_or (λ os. Seated 0 os) plan.phases phase [] less planned.seated
@@ -88,34 +80,26 @@ sub_at plan phase place done first offered o left planned at is_first subs =
     let whole : os ≡ done ++ first ∷ behind = at.phase_is ∙ append_assoc done (first ∷ offered) (o ∷ left) in
     let split : os ≡ (done ++ first ∷ []) ++ behind = whole ∙ sym (append_assoc done (first ∷ []) behind) in
     let run = seated_run (first.sub + 1) offered o left (seated_behind 0 done first behind (subst (Seated 0) whole (phase_seated plan phase planned at.in_plan))) subs in
-    let none = first_zero first is_first in
-    let parts = length-append done (first ∷ offered) in
-    let sum = length-append done (first ∷ []) in
     let place_is = at.place_is in
-    let back : place + 1 - o.sub ≡ length (done ++ first ∷ []) = omega (arith, place_is, parts, sum, run, none) in
+    let back : place + 1 - o.sub ≡ length (done ++ first ∷ []) = omega (arith, place_is, length-append done (first ∷ offered), length-append done (first ∷ []), run, first_zero first is_first) in
     let here : drop place os ≡ o ∷ left = left_at plan phase place (done ++ first ∷ offered) (o ∷ left) at.phase_is place_is in
     let P : List Opening → Type 0 = λ xs. relids (laters xs) ≡ range_with_len (offered_before plan phase + 1) (length (laters xs)) in
-    let mine : P ((done ++ first ∷ offered) ++ o ∷ left) = subst P at.phase_is (phase_relids plan phase planned at.in_plan).subs_are in
     let apart = all_front (λ p. is_sub p ≡ true) offered (o ∷ []) subs in
-    let spot = sub_place (offered_before plan phase + 1) (done ++ first ∷ offered) o left (sub_later o apart.1.0) mine in
-    let joined = ap (λ xs. length (laters xs)) (append_assoc done (first ∷ []) offered) in
-    let some = ap length (filter-append is_later (done ++ first ∷ []) offered) in
+    let spot = sub_place (offered_before plan phase + 1) (done ++ first ∷ offered) o left (sub_later o apart.1.0) (subst P at.phase_is (phase_relids plan phase planned at.in_plan).subs_are) in
     let more = length-append (laters (done ++ first ∷ [])) (laters offered) in
     let all = all_subs offered apart.0 in
     let ahead = ap length (filter-append is_later done (first ∷ [])) in
     let halves = length-append (laters done) (laters (first ∷ [])) in
-    let few = dialed_few first first.dialed refl in
     let not_subs : length (first_subs (first ∷ behind)) ≡ 0 = ap (λ b. length (if b then first ∷ first_subs behind else [])) is_first in
     let there : At plan phase (length done) done first behind = record { in_plan = at.in_plan; phase_is = whole; place_is = refl } in
-    let last = offered_here plan phase (length done) done first behind planned there in
     let known = all_snoc (λ p. p.relid ≤ offered_by plan phase (done ++ first ∷ []) []) done first
     (all_weaker (λ p. p.relid ≤ offered_by plan phase done (first ∷ behind)) (λ p. p.relid ≤ offered_by plan phase (done ++ first ∷ []) []) (λ p l. omega (arith, l, ahead, halves, not_subs)) done (done_known plan phase (length done) done first behind planned there))
-    (omega (arith, last, ahead, halves, few, not_subs)) in
+    (omega (arith, offered_here plan phase (length done) done first behind planned there, ahead, halves, dialed_few first first.dialed refl, not_subs)) in
     record {
       split = split;
       back = back;
       here = here;
       from_first = ap (from_first_sub os place) here ∙ ap (λ n. drop n os) back ∙ left_at plan phase (length (done ++ first ∷ [])) (done ++ first ∷ []) behind split refl;
-      relid_is = omega (arith, spot, joined, some, more, all);
+      relid_is = omega (arith, spot, (ap (λ xs. length (laters xs)) (append_assoc done (first ∷ []) offered)), ap length (filter-append is_later (done ++ first ∷ []) offered), more, all);
       known = known;
     }

@@ -5,27 +5,21 @@ use Rattle.std.proofs.lemmas.List.{length-map}
 use Rattle.std.proofs.lemmas.List.Concat.{flat_map-cons}
 use Rattle.std.proofs.lemmas.List.Elements.{All-get_or}
 use Rattle.std.proofs.lemmas.List.FromFn.{length-range_with_len}
-use Rattle.gpadl.specs.Assembly.{Assembly}
+use Rattle.control_laws.proofs.Words.{Assembly, Msg, Opening, Buffer, Receive, Send, SubOffer}
 use Rattle.gpadl.specs.Cut.{cut}
 use Rattle.gpadl.proofs.Cutting.{cuts_well}
-use Rattle.vmbus_msg.specs.declared.msg.Msg.{Msg}
-use Rattle.control_model.specs.declared.opening.Opening.{Opening}
-use Rattle.control_model.specs.declared.buffer.Buffer.{Buffer}
-use Rattle.control_model.specs.declared.buffer.Buffer.TheVariants.{Receive, Send}
-use Rattle.control_model.specs.declared.guest_wait.GuestWait.TheVariants.{SubOffer}
 use Rattle.control_model.specs.Plan.{BusPlan, buffer_list, buffer_begins, buffer_size, is_sub, first_subs, subs_next, IsOpening, list_pages, IsPlan, phase_of}
 use Rattle.control_model.specs.Messages.{pages_from, buffer_pages, created, open_on, opened, offer_sub}
 use Rattle.control_model.specs.Said.{dials, dial_offers, guest_lists, guest_buffer, guest_buffers, host_buffer, host_buffers, guest_opens, host_opens_all}
-use Rattle.control_model.specs.Stand.{At, count_dialed}
+use Rattle.control_model.specs.Stand.{At}
 use Rattle.control_model.specs.GuestAt.{lists_dialed, opens_listed, fills_opened, answers_list, answers_open, fills_listed, answers_fill, from_first_sub, start_to_say, start_to_hear}
 use Rattle.control_model.specs.HostAt.{ListComes}
 use Rattle.control_model.proofs.PlanLaws.{messages_few, messages_three}
-use Rattle.control_laws.proofs.Plans.{facts, none_first, none_behind}
-use Rattle.control_laws.proofs.Cutting.{by_all}
+use Rattle.control_laws.proofs.Plans.{none_first, none_behind}
+use Rattle.control_laws.proofs.Cutting.{by_all, all_front}
 use Rattle.control_laws.proofs.Saying.{left_at}
-use Rattle.control_laws.proofs.Handles.{all_front}
 use Rattle.control_laws.proofs.Seats.{AreSubs, first_run, sub_at}
-use Rattle.control_laws.proofs.Rounds.{Round, round, asks, answers, asks_join, answers_join, Pair, First, Talk, Leads, first_by, GuestIn, HostIn, guest_in, host_in}
+use Rattle.control_laws.proofs.Rounds.{Round, round, asks, answers, Pair, Talk, Leads, first_by, GuestIn, HostIn, guest_in, host_in}
 
 -- a page list has one to three messages
 abbrev pub list_long : Opening → ℕ
@@ -41,10 +35,9 @@ cut_some relid handle (page ∷ pages) some = omega arith
 cut_few : (o : Opening) → IsOpening o → (1 ≤ list_long o) × (list_long o ≤ 3)
 cut_few o fits =
     let some = fits.some_pages in
-    let few = fits.few_pages in
     let many = length-range_with_len o.first_page (list_pages o.ring_pages) in
     let are = cuts_well o.relid o.gpadl (pages_from o) (omega (arith, some, many)) in
-    let most = messages_few o.relid o.gpadl (pages_from o) (cut o.relid o.gpadl (pages_from o)) (omega (arith, few, many)) are in
+    let most = messages_few o.relid o.gpadl (pages_from o) (cut o.relid o.gpadl (pages_from o)) (omega (arith, fits.few_pages, many)) are in
     (cut_some o.relid o.gpadl (pages_from o) (omega (arith, some, many)), omega (arith, most))
 
 fill_few : (o : Opening) (k : Buffer) → (1 ≤ buffer_long o k) × (buffer_long o k ≤ 3)
@@ -71,79 +64,67 @@ abbrev pub starts : List Opening → List Round
 starts [] = []
 starts (o ∷ os) = dial_rounds o.dialed ++ behind_dial o os (starts os)
 
--- what is said of an opening
-dialed_one : (relid : ℕ) (dialed : Option ℕ) → (length (dial_offers relid dialed) ≡ answers (dial_rounds dialed)) × (length (dials dialed) ≡ asks (dial_rounds dialed))
-dialed_one relid None = (refl, refl)
-dialed_one relid (Some port) = (refl, refl)
+-- as many messages are said of an opening, in front of what is behind it
+asked_fills : (o : Opening) (b : Bool) (xs : List Msg) (rs : List Round) → asks rs ≡ length xs → asks (fill_rounds o b ++ rs) ≡ length ((if b then guest_buffer o Receive ++ guest_buffer o Send else []) ++ xs)
+asked_fills o true xs rs e = omega (arith, e, length-append (guest_buffer o Receive ++ guest_buffer o Send) xs, length-append (guest_buffer o Receive) (guest_buffer o Send))
+asked_fills o false xs rs e = e
 
-fills_one : (o : Opening) (b : Bool) → o.buffers ≡ b → (length (guest_buffers o) ≡ asks (fill_rounds o b)) × (length (host_buffers o) ≡ answers (fill_rounds o b))
-fills_one o true has =
-    let both = length-append (guest_buffer o Receive) (guest_buffer o Send) in
-    let a = ap (λ c. length (if c then guest_buffer o Receive ++ guest_buffer o Send else [])) has in
-    let b = ap (λ c. length (if c then host_buffer o Receive ∷ host_buffer o Send ∷ [] else [])) has in
-    (omega (arith, both, a), omega (arith, b))
-fills_one o false none =
-    let a = ap (λ c. length (if c then guest_buffer o Receive ++ guest_buffer o Send else [])) none in
-    let b = ap (λ c. length (if c then host_buffer o Receive ∷ host_buffer o Send ∷ [] else [])) none in
-    (omega (arith, a), omega (arith, b))
+answered_fills : (o : Opening) (b : Bool) (n : ℕ) (xs : List Msg) (rs : List Round) → n + answers rs ≡ length xs → n + answers (fill_rounds o b ++ rs) ≡ length ((if b then host_buffer o Receive ∷ host_buffer o Send ∷ [] else []) ++ xs)
+answered_fills o true n xs rs e = omega (arith, e)
+answered_fills o false n xs rs e = e
 
--- how much is left from an opening on
-record Told (o : Opening) (os : List Opening) : Type 0 where
-  asked : length (flat_map guest_opens (o ∷ os)) ≡ asks (dial_rounds o.dialed) + length (lists_dialed (o ∷ os))
-  listed : length (lists_dialed (o ∷ os)) ≡ list_long o + length (opens_listed (o ∷ os))
-  opened : length (opens_listed (o ∷ os)) ≡ 1 + length (fills_opened (o ∷ os))
-  filled : length (fills_opened (o ∷ os)) ≡ asks (fill_rounds o o.buffers) + length (flat_map guest_opens os)
-  dialed : length (host_opens_all (o ∷ os)) ≡ answers (dial_rounds o.dialed) + length (answers_list (o ∷ os))
-  created : length (answers_list (o ∷ os)) ≡ 1 + length (answers_open (o ∷ os))
-  answered : length (answers_open (o ∷ os)) ≡ 1 + (answers (fill_rounds o o.buffers) + (length (subs_next (o ∷ os)) + length (host_opens_all os)))
+asked_dial : (dialed : Option ℕ) (rs : List Round) → asks (dial_rounds dialed ++ rs) ≡ length (dials dialed) + asks rs
+asked_dial None rs = omega arith
+asked_dial (Some port) rs = refl
 
-told : (o : Opening) (os : List Opening) → Told o os
-told o os =
-    let dial = dialed_one o.relid o.dialed in
-    let fill = fills_one o o.buffers refl in
-    let opens : List Msg = flat_map guest_opens os in
-    let answers_left : List Msg = host_opens_all os in
-    let pair : List Msg = created o.relid o.gpadl ∷ opened o.relid o.relid ∷ host_buffers o in
-    let offers : List Msg = map offer_sub (subs_next (o ∷ os)) in
-    let rest : List Msg = offers ++ answers_left in
-    let a = ap length (flat_map-cons guest_opens o os) in
-    let b = length-append (dials o.dialed ++ guest_lists o) opens in
-    let c = length-append (dials o.dialed) (guest_lists o) in
-    let d = length-append (guest_lists o) opens in
-    let e = length-append (cut o.relid o.gpadl (pages_from o)) (open_on o ∷ guest_buffers o) in
-    let f = length-append (guest_buffers o) opens in
-    let g = length-append (dial_offers o.relid o.dialed ++ pair) rest in
-    let h = length-append (dial_offers o.relid o.dialed) pair in
-    let i = length-append (host_buffers o) rest in
-    let j = length-append offers answers_left in
-    let k = length-map (subs_next (o ∷ os)) offer_sub in
-    record {
-      asked = omega (arith, a, b, c, d, dial.1);
-      listed = omega (arith, d, e, f);
-      opened = omega arith;
-      filled = omega (arith, f, fill.0);
-      dialed = omega (arith, g, h, i, j, dial.0);
-      created = omega arith;
-      answered = omega (arith, i, j, k, fill.1);
-    }
+answered_dial : (relid : ℕ) (dialed : Option ℕ) (rs : List Round) → answers (dial_rounds dialed ++ rs) ≡ length (dial_offers relid dialed) + answers rs
+answered_dial relid None rs = omega arith
+answered_dial relid (Some port) rs = refl
 
 record Sums (os : List Opening) : Type 0 where
   asked : asks (starts os) ≡ length (flat_map guest_opens os)
   answered : answers (starts os) ≡ length (host_opens_all os)
 
+-- how many messages are left from an opening on
+abbrev tail : Opening → List Opening → List Round
+tail o os = fill_rounds o o.buffers ++ starts os
+
+record Sizes (o : Opening) (os : List Opening) : Type 0 where
+  asked : asks (starts os) ≡ length (flat_map guest_opens os)
+  answered : answers (starts os) ≡ length (host_opens_all os)
+  fills : asks (tail o os) ≡ length (guest_buffers o ++ flat_map guest_opens os)
+  filled : length (subs_next (o ∷ os)) + answers (tail o os) ≡ length (host_buffers o ++ (map offer_sub (subs_next (o ∷ os)) ++ host_opens_all os))
+  lists : list_long o + (1 + asks (tail o os)) ≡ length (guest_lists o ++ flat_map guest_opens os)
+  opens : asks (starts (o ∷ os)) ≡ length (flat_map guest_opens (o ∷ os))
+  opened_all : answers (starts (o ∷ os)) ≡ length (host_opens_all (o ∷ os))
+
+sizes_by : (o : Opening) (os : List Opening) → Sums os → Sizes o os
+sizes_by o os rest =
+    let opens : List Msg = flat_map guest_opens os in
+    let offers : List Msg = map offer_sub (subs_next (o ∷ os)) in
+    let answers_left : List Msg = offers ++ host_opens_all os in
+    let pair : List Msg = created o.relid o.gpadl ∷ opened o.relid o.relid ∷ host_buffers o in
+    let fills = asked_fills o o.buffers opens (starts os) rest.asked in
+    let filled = answered_fills o o.buffers (length (subs_next (o ∷ os))) answers_left (starts os) (omega (arith, rest.answered, length-append offers (host_opens_all os), length-map (subs_next (o ∷ os)) offer_sub)) in
+    let long = length-append (guest_lists o) opens in
+    let list = length-append (cut o.relid o.gpadl (pages_from o)) (open_on o ∷ guest_buffers o) in
+    let buffers = length-append (guest_buffers o) opens in
+    record {
+      asked = rest.asked;
+      answered = rest.answered;
+      fills = fills;
+      filled = filled;
+      lists = omega (arith, fills, long, list, buffers);
+      opens = omega (arith, asked_dial o.dialed (behind_dial o os (starts os)), fills, long, list, buffers, ap length (flat_map-cons guest_opens o os), length-append (dials o.dialed ++ guest_lists o) opens, length-append (dials o.dialed) (guest_lists o));
+      opened_all = omega (arith, answered_dial o.relid o.dialed (behind_dial o os (starts os)), filled, length-append (dial_offers o.relid o.dialed ++ pair) answers_left, length-append (dial_offers o.relid o.dialed) pair, length-append (host_buffers o) answers_left);
+    }
+
 sums : (os : List Opening) → Sums os
 sums [] = record { asked = refl; answered = refl }
-sums (o ∷ os) =
-    let rest = sums os in
-    let all = told o os in
-    let a = asks_join (dial_rounds o.dialed) (behind_dial o os (starts os)) in
-    let b = asks_join (fill_rounds o o.buffers) (starts os) in
-    let c = answers_join (dial_rounds o.dialed) (behind_dial o os (starts os)) in
-    let d = answers_join (fill_rounds o o.buffers) (starts os) in
-    record {
-      asked = omega (arith, a, b, rest.asked, all.asked, all.listed, all.opened, all.filled);
-      answered = omega (arith, c, d, rest.answered, all.dialed, all.created, all.answered);
-    }
+sums (o ∷ os) = let all = sizes_by o os (sums os) in record { asked = all.opens; answered = all.opened_all }
+
+sizes : (o : Opening) (os : List Opening) → Sizes o os
+sizes o os = sizes_by o os (sums os)
 
 -- the rounds of openings, from one of them on
 record CutRounds (done left : List Opening) : Type 0 where
@@ -167,16 +148,13 @@ Asked r = (1 ≤ r.asked) × (r.asked ≤ 3) × (r.answered ≡ 1)
 pair_asked : (r s : Round) → 1 ≤ r.asked → r.asked ≤ 3 → 1 ≤ r.answered → r.answered ≤ 17 → Asked s → Pair r s
 pair_asked r s a b c d is =
     let least = is.0 in
-    let most = is.1 in
-    let one = is.2 in
-    record { some_asked = omega (arith, a); some_answered = omega (arith, c); few_asked = omega (arith, b, most); few_answered = omega (arith, d, one) }
+    record { some_asked = omega (arith, a); some_answered = omega (arith, c); few_asked = omega (arith, b, is.1); few_answered = omega (arith, d, is.2) }
 
 talk_one : (r : Round) (rs : List Round) → Asked r → Leads Asked rs → Talk rs → Talk (r ∷ rs)
 talk_one r rs is leads talk =
-    let least = is.0 in
     let most = is.1 in
     let one = is.2 in
-    (first_by Asked r rs (omega (arith, most)) (omega (arith, one)) (λ s there. pair_asked r s least most (omega (arith, one)) (omega (arith, one)) there) leads, talk)
+    (first_by Asked r rs (omega (arith, most)) (omega (arith, one)) (λ s there. pair_asked r s is.0 most (omega (arith, one)) (omega (arith, one)) there) leads, talk)
 
 talk_fills : (o : Opening) (b : Bool) (rs : List Round) → Leads Asked rs → Talk rs → Talk (fill_rounds o b ++ rs) × Leads Asked (fill_rounds o b ++ rs)
 talk_fills o true rs leads talk =
@@ -213,10 +191,7 @@ talks (o ∷ os) fits small =
     let here_round : Round = open_round o os in
     let second : Talk (here_round ∷ (fill_rounds o o.buffers ++ starts os)) =
     (first_by Asked here_round (fill_rounds o o.buffers ++ starts os) (omega arith) (omega (arith, subs, small)) (λ s there. pair_asked here_round s (omega arith) (omega arith) (omega arith) (omega (arith, subs, small)) there) fills.1, fills.0) in
-    let first : Talk (behind_dial o os (starts os)) =
-    (record { some_asked = omega arith; some_answered = omega arith; few_asked = omega (arith, few.1); few_answered = omega (arith, subs, small) }, second) in
-    let here : Asked (round (list_long o) 1) = (few.0, few.1, refl) in
-    talk_dial o.dialed (behind_dial o os (starts os)) here first
+    talk_dial o.dialed (behind_dial o os (starts os)) (few.0, few.1, refl) (record { some_asked = omega arith; some_answered = omega arith; few_asked = omega (arith, few.1); few_answered = omega (arith, subs, small) }, second)
 
 -- in each the host answers
 some_fills : (o : Opening) (b : Bool) (rs : List Round) → AllByRecursion (λ r. 1 ≤ r.answered) rs → AllByRecursion (λ r. 1 ≤ r.answered) (fill_rounds o b ++ rs)
@@ -248,21 +223,7 @@ phase_small plan phase planned less = All-get_or (λ os. length os ≤ 16) plan.
 pub starts_talk : (plan : BusPlan) (phase : ℕ) → IsPlan plan → phase < length plan.phases → Talk (starts (phase_of plan phase))
 starts_talk plan phase planned less = (talks (phase_of plan phase) (phase_fits plan phase planned less) (phase_small plan phase planned less)).0
 
--- the rounds of a phase, at an opening: what comes behind asking for a service
-record AtOpening (plan : BusPlan) (phase place : ℕ) (o : Opening) (left : List Opening) : Type 0 where
-  front : List Round
-  is : starts (phase_of plan phase) ≡ front ++ (dial_rounds o.dialed ++ behind_dial o left (starts left))
-  here : drop place (phase_of plan phase) ≡ o ∷ left
-
-at_opening : (plan : BusPlan) (phase place : ℕ) (done : List Opening) (o : Opening) (left : List Opening) → At plan phase place done o left → AtOpening plan phase place o left
-at_opening plan phase place done o left at =
-    let cut = cut_rounds done (o ∷ left) in
-    record { front = cut.front; is = ap starts at.phase_is ∙ cut.is; here = left_at plan phase place done (o ∷ left) at.phase_is at.place_is }
-
--- behind that
-behind_front : (front ds : List Round) (r : Round) (rest R : List Round) → R ≡ front ++ (ds ++ r ∷ rest) → R ≡ (front ++ ds) ++ r ∷ rest
-behind_front front ds r rest R is = is ∙ sym (append_assoc front ds (r ∷ rest))
-
+-- behind a round
 one_behind : (front : List Round) (r : Round) (rest R : List Round) → R ≡ front ++ r ∷ rest → R ≡ (front ++ r ∷ []) ++ rest
 one_behind front r rest R is = is ∙ sym (append_assoc front (r ∷ []) rest)
 
@@ -271,108 +232,78 @@ module _ (plan : BusPlan) (phase place : ℕ) (done : List Opening) (o : Opening
   abbrev R : List Round
   R = starts (phase_of plan phase)
 
-  abbrev here_is : AtOpening plan phase place o left
-  here_is = at_opening plan phase place done o left at
+  abbrev front : List Round
+  front = (cut_rounds done (o ∷ left)).front
 
-  abbrev tail : List Round
-  tail = fill_rounds o o.buffers ++ starts left
+  abbrev behind : List Round
+  behind = round (list_long o) 1 ∷ open_round o left ∷ tail o left
+
+  back : o ∷ left ≡ drop place (phase_of plan phase)
+  back = sym (left_at plan phase place done (o ∷ left) at.phase_is at.place_is)
+
+  opening_is : R ≡ front ++ (dial_rounds o.dialed ++ behind)
+  opening_is = ap starts at.phase_is ∙ (cut_rounds done (o ∷ left)).is
 
   abbrev listed_front : List Round
-  listed_front = here_is.front ++ dial_rounds o.dialed
+  listed_front = front ++ dial_rounds o.dialed
 
-  list_is : R ≡ listed_front ++ (round (list_long o) 1 ∷ open_round o left ∷ tail)
-  list_is = behind_front here_is.front (dial_rounds o.dialed) (round (list_long o) 1) (open_round o left ∷ tail) R here_is.is
+  list_is : R ≡ listed_front ++ behind
+  list_is = opening_is ∙ sym (append_assoc front (dial_rounds o.dialed) behind)
 
-  open_is : R ≡ (listed_front ++ round (list_long o) 1 ∷ []) ++ (open_round o left ∷ tail)
-  open_is = one_behind listed_front (round (list_long o) 1) (open_round o left ∷ tail) R list_is
+  abbrev opened_front : List Round
+  opened_front = listed_front ++ round (list_long o) 1 ∷ []
 
-  fill_is : R ≡ ((listed_front ++ round (list_long o) 1 ∷ []) ++ open_round o left ∷ []) ++ tail
-  fill_is = one_behind (listed_front ++ round (list_long o) 1 ∷ []) (open_round o left) tail R open_is
+  open_is : R ≡ opened_front ++ (open_round o left ∷ tail o left)
+  open_is = one_behind listed_front (round (list_long o) 1) (open_round o left ∷ tail o left) R list_is
 
   abbrev filled_front : List Round
-  filled_front = (listed_front ++ round (list_long o) 1 ∷ []) ++ open_round o left ∷ []
+  filled_front = opened_front ++ open_round o left ∷ []
 
   pub guest_lists_in : GuestIn R (length (opens_listed (drop place (phase_of plan phase)))) (length (answers_list (drop place (phase_of plan phase))))
   guest_lists_in =
-      let all = told o left in
-      let rest = sums left in
-      let says = ap (λ os. length (opens_listed os)) here_is.here in
-      let hears = ap (λ os. length (answers_list os)) here_is.here in
-      let a = asks_join (fill_rounds o o.buffers) (starts left) in
-      let b = answers_join (fill_rounds o o.buffers) (starts left) in
-      guest_in R listed_front (round (list_long o) 1) (open_round o left ∷ tail) _ _ list_is
-      (omega (arith, says, all.opened, all.filled, rest.asked, a)) (omega (arith, hears, all.created, all.answered, rest.answered, b)) (omega (arith, hears, all.created, all.answered, rest.answered, b))
+      let s = sizes o left in
+      subst (λ os. GuestIn R (length (opens_listed os)) (length (answers_list os))) back (guest_in R listed_front (round (list_long o) 1) (open_round o left ∷ tail o left) _ _ list_is (omega arith) (omega arith) (omega arith))
 
   pub guest_opens_in : GuestIn R (length (fills_opened (drop place (phase_of plan phase)))) (length (answers_open (drop place (phase_of plan phase))))
   guest_opens_in =
-      let all = told o left in
-      let rest = sums left in
-      let says = ap (λ os. length (fills_opened os)) here_is.here in
-      let hears = ap (λ os. length (answers_open os)) here_is.here in
-      let a = asks_join (fill_rounds o o.buffers) (starts left) in
-      let b = answers_join (fill_rounds o o.buffers) (starts left) in
-      guest_in R (listed_front ++ round (list_long o) 1 ∷ []) (open_round o left) tail _ _ open_is
-      (omega (arith, says, all.filled, rest.asked, a)) (omega (arith, hears, all.answered, rest.answered, b)) (omega (arith, hears, all.answered, rest.answered, b))
+      let s = sizes o left in
+      subst (λ os. GuestIn R (length (fills_opened os)) (length (answers_open os))) back (guest_in R opened_front (open_round o left) (tail o left) _ _ open_is (omega arith) (omega arith) (omega arith))
 
   pub host_lists_in : (ms : List Msg) → 1 ≤ length ms → length ms ≤ list_long o → HostIn R (length (answers_list (drop place (phase_of plan phase)))) (length (ms ++ opens_listed (drop place (phase_of plan phase))))
   host_lists_in ms some few =
-      let all = told o left in
-      let rest = sums left in
-      let hears = ap (λ os. length (opens_listed os)) here_is.here in
-      let says = ap (λ os. length (answers_list os)) here_is.here in
-      let both = length-append ms (opens_listed (drop place (phase_of plan phase))) in
-      let a = asks_join (fill_rounds o o.buffers) (starts left) in
-      let b = answers_join (fill_rounds o o.buffers) (starts left) in
-      host_in R listed_front (round (list_long o) 1) (open_round o left ∷ tail) _ _ list_is
-      (omega (arith, says, all.created, all.answered, rest.answered, b)) (omega (arith, hears, both, some, all.opened, all.filled, rest.asked, a)) (omega (arith, hears, both, few, all.opened, all.filled, rest.asked, a))
+      let s = sizes o left in
+      let both = length-append ms (opens_listed (o ∷ left)) in
+      subst (λ os. HostIn R (length (answers_list os)) (length (ms ++ opens_listed os))) back (host_in R listed_front (round (list_long o) 1) (open_round o left ∷ tail o left) _ _ list_is (omega arith) (omega arith) (omega arith))
 
   pub host_opens_in : HostIn R (length (answers_open (drop place (phase_of plan phase)))) (length (opens_listed (drop place (phase_of plan phase))))
   host_opens_in =
-      let all = told o left in
-      let rest = sums left in
-      let hears = ap (λ os. length (opens_listed os)) here_is.here in
-      let says = ap (λ os. length (answers_open os)) here_is.here in
-      let a = asks_join (fill_rounds o o.buffers) (starts left) in
-      let b = answers_join (fill_rounds o o.buffers) (starts left) in
-      host_in R (listed_front ++ round (list_long o) 1 ∷ []) (open_round o left) tail _ _ open_is
-      (omega (arith, says, all.answered, rest.answered, b)) (omega (arith, hears, all.opened, all.filled, rest.asked, a)) (omega (arith, hears, all.opened, all.filled, rest.asked, a))
+      let s = sizes o left in
+      subst (λ os. HostIn R (length (answers_open os)) (length (opens_listed os))) back (host_in R opened_front (open_round o left) (tail o left) _ _ open_is (omega arith) (omega arith) (omega arith))
 
   -- a service was asked for, or is to be
-  dial_is : (dialed : Option ℕ) → o.dialed ≡ dialed → is_some o.dialed ≡ true → R ≡ here_is.front ++ (round 1 1 ∷ behind_dial o left (starts left))
-  dial_is None is asked = absurd (let wrong : true ≡ false = sym asked ∙ ap is_some is in cc)
-  dial_is (Some port) is asked = here_is.is ∙ ap (λ d. here_is.front ++ (dial_rounds d ++ behind_dial o left (starts left))) is
+  dial_is : (dialed : Option ℕ) → is_some dialed ≡ true → dial_rounds dialed ≡ round 1 1 ∷ []
+  dial_is None asked = absurd (cc)
+  dial_is (Some port) asked = refl
 
-  dial_one : (dialed : Option ℕ) → o.dialed ≡ dialed → is_some o.dialed ≡ true → (asks (dial_rounds o.dialed) ≡ 1) × (answers (dial_rounds o.dialed) ≡ 1)
-  dial_one None is asked = absurd (let wrong : true ≡ false = sym asked ∙ ap is_some is in cc)
-  dial_one (Some port) is asked = (ap (λ d. asks (dial_rounds d)) is, ap (λ d. answers (dial_rounds d)) is)
+  asked_is : is_some o.dialed ≡ true → R ≡ front ++ (round 1 1 ∷ behind)
+  asked_is asked = opening_is ∙ ap (λ rs. front ++ (rs ++ behind)) (dial_is o.dialed asked)
 
   pub guest_dials_in : is_some o.dialed ≡ true → GuestIn R (length (lists_dialed (drop place (phase_of plan phase)))) (length (host_opens_all (drop place (phase_of plan phase))))
   guest_dials_in asked =
-      let all = told o left in
-      let rest = sums left in
-      let one = dial_one o.dialed refl asked in
-      let says = ap (λ os. length (lists_dialed os)) here_is.here in
-      let hears = ap (λ os. length (host_opens_all os)) here_is.here in
-      let a = asks_join (fill_rounds o o.buffers) (starts left) in
-      let b = answers_join (fill_rounds o o.buffers) (starts left) in
-      guest_in R here_is.front (round 1 1) (behind_dial o left (starts left)) _ _ (dial_is o.dialed refl asked)
-      (omega (arith, says, all.listed, all.opened, all.filled, rest.asked, a)) (omega (arith, hears, one.1, all.dialed, all.created, all.answered, rest.answered, b)) (omega (arith, hears, one.1, all.dialed, all.created, all.answered, rest.answered, b))
+      let s = sizes o left in
+      let one = ap (λ rs. answers (rs ++ behind)) (dial_is o.dialed asked) in
+      subst (λ os. GuestIn R (length (lists_dialed os)) (length (host_opens_all os))) back (guest_in R front (round 1 1) behind _ _ (asked_is asked) (omega arith) (omega arith) (omega arith))
 
   pub host_dials_in : is_some o.dialed ≡ true → HostIn R (length (host_opens_all (drop place (phase_of plan phase)))) (length (flat_map guest_opens (drop place (phase_of plan phase))))
   host_dials_in asked =
-      let all = told o left in
-      let rest = sums left in
-      let one = dial_one o.dialed refl asked in
-      let hears = ap (λ os. length (flat_map guest_opens os)) here_is.here in
-      let says = ap (λ os. length (host_opens_all os)) here_is.here in
-      let a = asks_join (fill_rounds o o.buffers) (starts left) in
-      let b = answers_join (fill_rounds o o.buffers) (starts left) in
-      host_in R here_is.front (round 1 1) (behind_dial o left (starts left)) _ _ (dial_is o.dialed refl asked)
-      (omega (arith, says, one.1, all.dialed, all.created, all.answered, rest.answered, b)) (omega (arith, hears, one.0, all.asked, all.listed, all.opened, all.filled, rest.asked, a)) (omega (arith, hears, one.0, all.asked, all.listed, all.opened, all.filled, rest.asked, a))
+      let s = sizes o left in
+      let one = ap (λ rs. asks (rs ++ behind)) (dial_is o.dialed asked) in
+      let two = ap (λ rs. answers (rs ++ behind)) (dial_is o.dialed asked) in
+      subst (λ os. HostIn R (length (host_opens_all os)) (length (flat_map guest_opens os))) back (host_in R front (round 1 1) behind _ _ (asked_is asked) (omega arith) (omega arith) (omega arith))
 
   -- the page list of a buffer was sent, or comes
   receive_is : o.buffers ≡ true → R ≡ filled_front ++ (round (buffer_long o Receive) 1 ∷ round (buffer_long o Send) 1 ∷ starts left)
-  receive_is has = fill_is ∙ ap (λ b. filled_front ++ (fill_rounds o b ++ starts left)) has
+  receive_is has = one_behind opened_front (open_round o left) (tail o left) R open_is ∙ ap (λ b. filled_front ++ (fill_rounds o b ++ starts left)) has
 
   send_is : o.buffers ≡ true → R ≡ (filled_front ++ round (buffer_long o Receive) 1 ∷ []) ++ (round (buffer_long o Send) 1 ∷ starts left)
   send_is has = one_behind filled_front (round (buffer_long o Receive) 1) (round (buffer_long o Send) 1 ∷ starts left) R (receive_is has)
@@ -382,46 +313,36 @@ module _ (plan : BusPlan) (phase place : ℕ) (done : List Opening) (o : Opening
 
   pub guest_fills_in : (k : Buffer) → IsPlan plan → o.buffers ≡ true → GuestIn R (length (fills_listed k (drop place (phase_of plan phase)))) (length (answers_fill k (drop place (phase_of plan phase))))
   guest_fills_in Receive planned has =
-      let rest = sums left in
+      let s = sizes o left in
       let none = no_subs planned has in
-      let says = ap (λ os. length (fills_listed Receive os)) here_is.here in
-      let hears = ap (λ os. length (answers_fill Receive os)) here_is.here in
       let a = length-append (guest_buffer o Send) (flat_map guest_opens left) in
-      guest_in R filled_front (round (buffer_long o Receive) 1) (round (buffer_long o Send) 1 ∷ starts left) _ _ (receive_is has)
-      (omega (arith, says, a, rest.asked)) (omega (arith, hears, none, rest.answered)) (omega (arith, hears, none, rest.answered))
+      subst (λ os. GuestIn R (length (fills_listed Receive os)) (length (answers_fill Receive os))) back
+      (guest_in R filled_front (round (buffer_long o Receive) 1) (round (buffer_long o Send) 1 ∷ starts left) _ _ (receive_is has) (omega arith) (omega arith) (omega arith))
   guest_fills_in Send planned has =
-      let rest = sums left in
+      let s = sizes o left in
       let none = no_subs planned has in
-      let says = ap (λ os. length (fills_listed Send os)) here_is.here in
-      let hears = ap (λ os. length (answers_fill Send os)) here_is.here in
-      guest_in R (filled_front ++ round (buffer_long o Receive) 1 ∷ []) (round (buffer_long o Send) 1) (starts left) _ _ (send_is has)
-      (omega (arith, says, rest.asked)) (omega (arith, hears, none, rest.answered)) (omega (arith, hears, none, rest.answered))
+      subst (λ os. GuestIn R (length (fills_listed Send os)) (length (answers_fill Send os))) back
+      (guest_in R (filled_front ++ round (buffer_long o Receive) 1 ∷ []) (round (buffer_long o Send) 1) (starts left) _ _ (send_is has) (omega arith) (omega arith) (omega arith))
 
   pub host_fills_in : (k : Buffer) (ms : List Msg) → IsPlan plan → o.buffers ≡ true → 1 ≤ length ms → length ms ≤ buffer_long o k → HostIn R (length (answers_fill k (drop place (phase_of plan phase)))) (length (ms ++ fills_listed k (drop place (phase_of plan phase))))
   host_fills_in Receive ms planned has some few =
-      let rest = sums left in
+      let s = sizes o left in
       let none = no_subs planned has in
-      let hears = ap (λ os. length (fills_listed Receive os)) here_is.here in
-      let says = ap (λ os. length (answers_fill Receive os)) here_is.here in
-      let both = length-append ms (fills_listed Receive (drop place (phase_of plan phase))) in
+      let both = length-append ms (fills_listed Receive (o ∷ left)) in
       let a = length-append (guest_buffer o Send) (flat_map guest_opens left) in
-      host_in R filled_front (round (buffer_long o Receive) 1) (round (buffer_long o Send) 1 ∷ starts left) _ _ (receive_is has)
-      (omega (arith, says, none, rest.answered)) (omega (arith, hears, both, some, a, rest.asked)) (omega (arith, hears, both, few, a, rest.asked))
+      subst (λ os. HostIn R (length (answers_fill Receive os)) (length (ms ++ fills_listed Receive os))) back
+      (host_in R filled_front (round (buffer_long o Receive) 1) (round (buffer_long o Send) 1 ∷ starts left) _ _ (receive_is has) (omega arith) (omega arith) (omega arith))
   host_fills_in Send ms planned has some few =
-      let rest = sums left in
+      let s = sizes o left in
       let none = no_subs planned has in
-      let hears = ap (λ os. length (fills_listed Send os)) here_is.here in
-      let says = ap (λ os. length (answers_fill Send os)) here_is.here in
-      let both = length-append ms (fills_listed Send (drop place (phase_of plan phase))) in
-      host_in R (filled_front ++ round (buffer_long o Receive) 1 ∷ []) (round (buffer_long o Send) 1) (starts left) _ _ (send_is has)
-      (omega (arith, says, none, rest.answered)) (omega (arith, hears, both, some, rest.asked)) (omega (arith, hears, both, few, rest.asked))
+      let both = length-append ms (fills_listed Send (o ∷ left)) in
+      subst (λ os. HostIn R (length (answers_fill Send os)) (length (ms ++ fills_listed Send os))) back
+      (host_in R (filled_front ++ round (buffer_long o Receive) 1 ∷ []) (round (buffer_long o Send) 1) (starts left) _ _ (send_is has) (omega arith) (omega arith) (omega arith))
 
 -- the messages of a page list that are still to come are no more than it has
 pub pieces_few : (live : List ℕ) (relid handle : ℕ) (pages : List ℕ) (s : Assembly) (m : Msg) (ms : List Msg) → ListComes live relid handle pages s (m ∷ ms) → suc (length ms) ≤ length (cut relid handle pages)
 pieces_few live relid handle pages s m ms list =
-    let whole = ap length list.whole in
-    let parts = length-append list.came (m ∷ ms) in
-    omega (arith, whole, parts)
+    omega (arith, ap length list.whole, length-append list.came (m ∷ ms))
 
 -- a guest to which the sub-channels of a device are offered: the device's first channel is open
 pub guest_offers_in : (plan : BusPlan) (phase place : ℕ) (done : List Opening) (first : Opening) (offered : List Opening) (o : Opening) (left : List Opening) → IsPlan plan → At plan phase place (done ++ first ∷ offered) o left → is_sub first ≡ false → AreSubs (offered ++ o ∷ [])
@@ -431,23 +352,22 @@ guest_offers_in plan phase place done first offered o left planned at is_first s
     let behind : List Opening = offered ++ o ∷ left in
     let spot = sub_at plan phase place done first offered o left planned at is_first subs in
     let there : At plan phase (length done) done first behind = record { in_plan = at.in_plan; phase_is = spot.split ∙ append_assoc done (first ∷ []) behind; place_is = refl } in
-    let mine = (all_front (λ p. is_sub p ≡ true) offered (o ∷ []) subs).1.0 in
-    let run : length (first_subs behind) ≡ length (offered ++ first_subs (o ∷ left)) = ap length (first_run offered (o ∷ left) (all_front (λ p. is_sub p ≡ true) offered (o ∷ []) subs).0) in
+    let parts = all_front (λ p. is_sub p ≡ true) offered (o ∷ []) subs in
+    let run = ap length (first_run offered (o ∷ left) parts.0) in
     let run_parts = length-append offered (first_subs (o ∷ left)) in
-    let run_mine : length (first_subs (o ∷ left)) ≡ suc (length (first_subs left)) = ap (λ b. length (if b then o ∷ first_subs left else [])) mine in
+    let run_mine : length (first_subs (o ∷ left)) ≡ suc (length (first_subs left)) = ap (λ b. length (if b then o ∷ first_subs left else [])) parts.1.0 in
     let first_is : length (first_subs (drop place os)) ≡ suc (length (first_subs left)) = ap (λ xs. length (first_subs xs)) spot.here ∙ run_mine in
     let next : length (subs_next (first ∷ behind)) ≡ length (first_subs behind) = ap (λ b. length (if b then [] else first_subs behind)) is_first in
-    let says : length (start_to_say os (SubOffer place)) ≡ length (flat_map guest_opens behind) = ap (λ xs. length (flat_map guest_opens xs)) spot.from_first in
     let hears = length-append (map offer_sub (first_subs (drop place os))) (host_opens_all (from_first_sub os place (drop place os))) in
     let each = length-map (first_subs (drop place os)) offer_sub in
-    let back : length (host_opens_all (from_first_sub os place (drop place os))) ≡ length (host_opens_all behind) = ap (λ xs. length (host_opens_all xs)) spot.from_first in
+    let says = ap (λ xs. length (flat_map guest_opens xs)) spot.from_first in
+    let answers_are = ap (λ xs. length (host_opens_all xs)) spot.from_first in
     let rest = sums behind in
-    let bare = no_fills first first.buffers refl (λ has. let none = ap length (none_first plan phase (length done) done first behind planned there has) in omega (arith, none, run, run_parts, run_mine)) in
-    let a = asks_join (fill_rounds first first.buffers) (starts behind) in
-    let b = answers_join (fill_rounds first first.buffers) (starts behind) in
-    guest_in (starts os) (listed_front plan phase (length done) done first behind there ++ round (list_long first) 1 ∷ []) (open_round first behind) (fill_rounds first first.buffers ++ starts behind) _ _ (open_is plan phase (length done) done first behind there)
-    (omega (arith, says, rest.asked, a, bare.0)) (omega (arith, hears, each, back, first_is, rest.answered, b, bare.1)) (omega (arith, hears, each, back, first_is, next, run, run_parts, run_mine, rest.answered, b, bare.1))
+    let bare : first.buffers ≡ false = no_fills first.buffers (λ has. let none = ap length (none_first plan phase (length done) done first behind planned there has) in omega (arith, none, run, run_parts, run_mine)) in
+    let a = ap (λ b. asks (fill_rounds first b ++ starts behind)) bare in
+    let b = ap (λ b. answers (fill_rounds first b ++ starts behind)) bare in
+    guest_in (starts os) (opened_front plan phase (length done) done first behind there) (open_round first behind) (tail first behind) _ _ (open_is plan phase (length done) done first behind there) (omega arith) (omega arith) (omega arith)
   where
-    no_fills : (o : Opening) (b : Bool) → o.buffers ≡ b → (o.buffers ≡ true → ⊥) → (asks (fill_rounds o o.buffers) ≡ 0) × (answers (fill_rounds o o.buffers) ≡ 0)
-    no_fills o true has off = absurd (off has)
-    no_fills o false none off = (ap (λ b. asks (fill_rounds o b)) none, ap (λ b. answers (fill_rounds o b)) none)
+    no_fills : (b : Bool) → (b ≡ true → ⊥) → b ≡ false
+    no_fills true off = absurd (off refl)
+    no_fills false off = refl

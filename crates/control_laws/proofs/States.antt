@@ -5,9 +5,7 @@ use Rattle.std.specs.Option.{option_map}
 use Rattle.std.proofs.lemmas.List.{length-map}
 use Rattle.std.proofs.lemmas.List.FromFn.{length-map-range_with_len}
 use Rattle.std.proofs.lemmas.Option.{slice_get-map}
-use Rattle.chan_state.specs.declared.state.State.{State}
-use Rattle.chan_state.specs.declared.chan_state.ChanState.{ChanState}
-use Rattle.control_model.specs.declared.channel.Channel.{Channel}
+use Rattle.control_laws.proofs.Words.{State, ChanState, Channel}
 use Rattle.control_model.specs.Plan.{BusPlan}
 use Rattle.control_model.specs.Said.{channel_count, last_state, at_end}
 use Rattle.control_model.specs.Channels.{by_relid}
@@ -26,8 +24,7 @@ same_lists (x ∷ xs) [] many each = absurd (omega (arith, many))
 same_lists (x ∷ xs) (y ∷ ys) many each =
     let both : Some x ≡ Some y = each 0 (omega arith) in
     let first : x ≡ y = cc in
-    let rest = same_lists xs ys (omega (arith, many)) (λ i less. each (suc i) (omega (arith, less))) in
-    (λ i. first i ∷ rest i)
+    (λ i. first i ∷ (same_lists xs ys (omega (arith, many)) (λ i less. each (suc i) (omega (arith, less)))) i)
 
 get_range : (a n i : ℕ) → i < n → slice_get (range_with_len a n) i ≡ Some (a + i)
 get_range a zero i less = absurd (omega (arith, less))

@@ -3,8 +3,7 @@ use Rattle.std.proofs.Common.{◌≡◌, ◌∙◌, ℕ, ◌<◌, ◌≤◌, ◌
 use Rattle.std.specs.List.{AllByRecursion}
 use Rattle.std.proofs.lemmas.Bool.{eqb-true}
 use Rattle.std.proofs.lemmas.Bool.Decides.{nat_tests}
-use Rattle.contact.specs.declared.version.Version.{Version}
-use Rattle.contact.specs.Versions.{version, versions, versions_tried, is_tried}
+use Rattle.control_laws.proofs.Words.{Version, version, versions, versions_tried, is_tried}
 use Rattle.control_model.specs.Plan.{BusPlan, IsPlan}
 use Rattle.control_model.specs.Said.{agreed}
 use Rattle.control_model.specs.Stand.{Tries, Agreed}
@@ -37,10 +36,7 @@ unfolding listed
 last_one v h [] falls is within = absurd (let off : false ≡ true = is in cc)
 last_one v h (x ∷ xs) falls is within = by_test {P = filter (is_tried v h) (x ∷ xs) ≡ v ∷ []} (x == v)
     (λ e. let eq = eqb-true x v e in
-    let here : is_tried v h x ≡ true = within_all v h x (omega (arith, eq)) (omega (arith, eq, within)) in
-    let low : AllByRecursion (λ y. y < v) xs = subst (λ z. AllByRecursion (λ y. y < z) xs) eq falls.0 in
-    let none = none_below v h xs within low in
-    rw here (λ i. eq i ∷ none i))
+    rw (within_all v h x (omega (arith, eq)) (omega (arith, eq, within))) (λ i. eq i ∷ (none_below v h xs within (subst (λ z. AllByRecursion (λ y. y < z) xs) eq falls.0)) i))
     (λ e. let rest : listed v xs ≡ true = rw e at is in
     rw (above_all v h x (under x v xs falls.0 rest)) (last_one v h xs falls.1 rest within))
 
@@ -57,19 +53,15 @@ all_alike : (v l h : ℕ) (xs : List ℕ) → l < v → h ≤ l → AllByRecursi
 all_alike v l h [] less low all most = refl
 all_alike v l h (x ∷ xs) less low all most =
     let rest = all_alike v l h xs less low all.1 most.1 in
-    let same = alike v l h x less low (most.0 all.0) in
-    (λ i. if same i then x ∷ rest i else rest i)
+    (λ i. if (alike v l h x less low (most.0 all.0)) i then x ∷ rest i else rest i)
 
 next_ones : (v l h : ℕ) (xs : List ℕ) → Falling xs → listed v xs ≡ true → l < v → h ≤ l → AllByRecursion (λ y. y < v → y ≤ l) xs → filter (is_tried v h) xs ≡ v ∷ filter (is_tried l h) xs
 unfolding listed
 next_ones v l h [] falls is less low most = absurd (let off : false ≡ true = is in cc)
 next_ones v l h (x ∷ xs) falls is less low most = by_test {P = filter (is_tried v h) (x ∷ xs) ≡ v ∷ filter (is_tried l h) (x ∷ xs)} (x == v)
     (λ e. let eq = eqb-true x v e in
-    let here : is_tried v h x ≡ true = within_all v h x (omega (arith, eq)) (omega (arith, eq, less, low)) in
-    let not_here : is_tried l h x ≡ false = above_all l h x (omega (arith, eq, less)) in
-    let below : AllByRecursion (λ y. y < v) xs = subst (λ z. AllByRecursion (λ y. y < z) xs) eq falls.0 in
-    let same = all_alike v l h xs less low below most.1 in
-    rw (here, not_here) (λ i. eq i ∷ same i))
+    let same = all_alike v l h xs less low (subst (λ z. AllByRecursion (λ y. y < z) xs) eq falls.0) most.1 in
+    rw (within_all v h x (omega (arith, eq)) (omega (arith, eq, less, low)), above_all l h x (omega (arith, eq, less))) (λ i. eq i ∷ same i))
     (λ e. let rest : listed v xs ≡ true = rw e at is in
     let more = under x v xs falls.0 rest in
     rw (above_all v h x more, above_all l h x (omega (arith, more, less))) (next_ones v l h xs falls.1 rest less low most.1))
@@ -101,8 +93,6 @@ agreed_is plan v planned is =
     let at_host = is.within_host in
     by_test {P = v.0 ≡ agreed plan} (nat_le plan.guest.0 plan.host.0)
     (λ e. let less : plan.guest.0 ≤ plan.host.0 = grind (arith, nat_tests, e) in
-    let most = is.tried.greatest plan.guest.0 planned.guest (omega arith) less in
-    omega (arith, less, most, at_guest, at_host))
+    omega (arith, less, is.tried.greatest plan.guest.0 planned.guest (omega arith) less, at_guest, at_host))
     (λ e. let more : plan.host.0 < plan.guest.0 = grind (arith, nat_tests, e) in
-    let most = is.tried.greatest plan.host.0 planned.host (omega (arith, more)) (omega arith) in
-    omega (arith, more, most, at_guest, at_host))
+    omega (arith, more, is.tried.greatest plan.host.0 planned.host (omega (arith, more)) (omega arith), at_guest, at_host))

@@ -2,13 +2,7 @@
 use Rattle.std.proofs.Common.{◌≡◌, ◌≢◌, ◌∙◌, ◌⊎◌, inl, inr, ⊎_elim, ℕ, zero, suc, ◌+◌, ◌==◌, Bool, true, false, cond, List, [], ◌∷◌, ◌++◌, length, map, drop, filter, Some, None, if◌then◌else◌, is_some, refl, sym, ap, arith}
 use Rattle.std.specs.List.{AllByRecursion, position_from}
 use Rattle.std.proofs.lemmas.Bool.{eq-eqb, eqb-true}
-use Rattle.contact.specs.declared.version.Version.{Version}
-use Rattle.contact.specs.declared.part.Part.TheVariants.{PhaseStart}
-use Rattle.contact.specs.Versions.{has_modify, answers_modify}
-use Rattle.io_edge.specs.declared.side.Side.TheVariants.{Guest as GuestSide, Host as HostSide}
-use Rattle.chan_state.specs.declared.state.State.{State}
-use Rattle.vmbus_msg.specs.declared.msg.Msg.{Msg}
-use Rattle.control_model.specs.declared.opening.Opening.{Opening}
+use Rattle.control_laws.proofs.Words.{Version, PhaseStart, has_modify, answers_modify, GuestSide, HostSide, State, Msg, Opening}
 use Rattle.control_model.specs.Plan.{BusPlan, IsPlan, phase_of, movers, movers_in, vp_for}
 use Rattle.control_model.specs.Messages.{modify, modified}
 use Rattle.control_model.specs.Said.{agreed, moved, guest_moves, host_moves}
@@ -16,6 +10,7 @@ use Rattle.control_model.specs.Stand.{marked, vps_before, before_phase, guest_is
 use Rattle.control_laws.proofs.Marks.{by_place, by_test, differ, marked_apart, marked_here, marked_there}
 use Rattle.control_laws.proofs.Closing.{Distinct}
 use Rattle.control_laws.proofs.Tried.{agreed_is}
+use Rattle.control_laws.proofs.Cutting.{both}
 
 -- marks that say the same of a channel
 pub marked_alike : {X : Type 0} (a b : Opening → X) (os : List Opening) (x y : ℕ → X) (q : ℕ) → ((o : Opening) → o.relid ≡ q → a o ≡ b o) → x q ≡ y q → marked a os x q ≡ marked b os y q
@@ -82,10 +77,6 @@ pub answers_are : (plan : BusPlan) (v : Version) → IsPlan plan → Agreed plan
 answers_are plan v planned is = ap answers_modify (sym (agreed_is plan v planned is))
 
 -- openings no two of which have one relid: each mark is read again
-both : (P Q R : Opening → Type 0) → ((o : Opening) → P o → Q o → R o) → (os : List Opening) → AllByRecursion P os → AllByRecursion Q os → AllByRecursion R os
-both P Q R f [] p q = tt
-both P Q R f (o ∷ os) p q = (f o p.0 q.0, both P Q R f os p.1 q.1)
-
 pub own_marked : {X : Type 0} (so : Opening → X) (os : List Opening) (base : ℕ → X) → Distinct (λ o. o.relid) os → AllByRecursion (λ o. marked so os base o.relid ≡ so o) os
 own_marked so [] base apart = tt
 own_marked so (o ∷ os) base apart = (

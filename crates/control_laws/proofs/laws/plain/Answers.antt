@@ -1,11 +1,5 @@
 use Rattle.control_laws.proofs.PlainPhases.{plain_guest, plain_host, plain_count}
 use Rattle.control_laws.proofs.laws.plain.Goals as goal
 
-pub returns-clause-guest : goal.returns-clause-guest
-returns-clause-guest c = plain_guest
-
-pub returns-clause-host : goal.returns-clause-host
-returns-clause-host c = plain_host
-
-pub returns-clause-count : goal.returns-clause-count
-returns-clause-count c = plain_count
+pub returns : goal.returns
+returns c = record { guest = plain_guest; host = plain_host; count = plain_count }
