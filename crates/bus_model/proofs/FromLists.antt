@@ -5,11 +5,11 @@ use Rattle.std.specs.List.{AllByRecursion, cons_option}
 use Rattle.std.proofs.lemmas.List.{length-map, map-append}
 use Rattle.scsi_disk.proofs.RoomLaws.{by_test}
 use Rattle.contact.specs.declared.kind.DeviceKind.{DeviceKind}
-use Rattle.contact.specs.declared.kind.DeviceKind.TheVariants.{Beat, Down, Disk, Net, Kvp}
+use Rattle.contact.specs.declared.kind.DeviceKind.TheVariants.{Net}
 use Rattle.page_kept.specs.declared.item.Item.{Item}
 use Rattle.io_edge.specs.declared.side.Side.TheVariants.{Guest, Host}
 use Rattle.script_lines.specs.declared.line.Ask.{Ask}
-use Rattle.script_lines.specs.declared.line.Ask.TheVariants.{Ic as AskIc, Disk as AskDisk, Net as AskNet, Kvp as AskKvp}
+use Rattle.script_lines.specs.declared.line.Ask.TheVariants.{Net as AskNet}
 use Rattle.bus_script.specs.declared.outcome.LineResult.TheVariants.{Unserved as IsUnserved}
 use Rattle.bus_script.specs.declared.outcome.Reply.{Reply}
 use Rattle.device_kinds.specs.Kinds.{DeviceWant as Want, IsAskable}
@@ -102,14 +102,9 @@ serves_first_lem Host order tells lists served can run = first_asked order tells
 -- requests of other kinds than a network's are the same under each id
 
 same_ask : (kind : DeviceKind) (id : ℕ) (ask : Ask) → (kind ≡ Net → ⊥) → IsAskable kind ask → asked_as id ask ≡ ask
-same_ask kind id (AskIc ask) other can = refl
-same_ask kind id (AskDisk request) other can = refl
-same_ask kind id (AskKvp request) other can = refl
-same_ask Beat id (AskNet message) other can = absurd can
-same_ask Down id (AskNet message) other can = absurd can
-same_ask Disk id (AskNet message) other can = absurd can
-same_ask Kvp id (AskNet message) other can = absurd can
 same_ask Net id (AskNet message) other can = absurd (other refl)
+same_ask _ id (AskNet message) other can = absurd can
+same_ask _ id _ other can = refl
 
 none_under : (asks : List Ask) → [] ≡ take 0 asks
 none_under [] = refl

@@ -11,7 +11,7 @@ use Rattle.channel_trace.specs.declared.event.Event.{Event}
 use Rattle.channel_trace.specs.declared.event.Event.TheVariants.{Sent}
 use Rattle.channel_trace.specs.Runs.{sent_of, got_of}
 use Rattle.contact.specs.declared.kind.DeviceKind.{DeviceKind}
-use Rattle.contact.specs.declared.kind.DeviceKind.TheVariants.{Beat, Down, Disk, Net, Kvp}
+use Rattle.contact.specs.declared.kind.DeviceKind.TheVariants.{Disk, Net}
 use Rattle.channel_model.specs.Roles.{side_that_asks}
 use Rattle.channel_model.specs.Lift.{or_else}
 use Rattle.channel_model.specs.Server.{Serves, ServesAsk, ServesOne}
@@ -22,7 +22,7 @@ use Rattle.net_dev.specs.Station.{initialize_reply}
 use Rattle.script_lines.specs.declared.line.Ask.{Ask}
 use Rattle.bus_script.specs.declared.outcome.Reply.{Reply}
 use Rattle.device_kinds.specs.Formats.{format_of, lends_on}
-use Rattle.device_kinds.specs.Kinds.{net_reply, nets}
+use Rattle.device_kinds.specs.Kinds.{nets}
 use Rattle.net_format.specs.Nets.{channel_type}
 use Rattle.net_format.specs.PageNets.{message_of, rndis_back, transfer_packet}
 use Rattle.device_kinds.proofs.KindLaws.{keeps, no_messages}
@@ -66,22 +66,18 @@ unfolding rndis_back transfer_packet
 rndis_own m own l is least within h = transfer_lends_own own (channel_type m) (length (rndis_bytes m)) l least within h
 
 given_own : (kind : DeviceKind) → lends_on kind ≡ true → (i : Item) (r : Reply) → AreOwn kind ((format_of kind).gives i r).message
-given_own Beat lends i r = absurd (cc)
-given_own Down lends i r = absurd (cc)
-given_own Kvp lends i r = absurd (cc)
 given_own Disk lends i r = subst (AreOwn Disk) (sym ((no_messages Disk refl).gives i r)) tt
-given_own Net lends i r = of_back (or_else nets.other (net_reply r)).back
+given_own Net lends i r = of_back (or_else nets.other (nets.own_reply r)).back
   where
     of_back : (o : Option Rndis) → AreOwn Net (message_of o)
     of_back None = tt
     of_back (Some m) = rndis_own m
+given_own _ lends i r = absurd (cc)
 
 fixed_own : (kind : DeviceKind) → lends_on kind ≡ true → (i : Item) (b : Back Item) → (format_of kind).fixed i ≡ Some b → AreOwn kind b.message
-fixed_own Beat lends i b is = absurd (cc)
-fixed_own Down lends i b is = absurd (cc)
-fixed_own Kvp lends i b is = absurd (cc)
 fixed_own Disk lends i b is = subst (AreOwn Disk) (sym ((no_messages Disk refl).fixed i b is)) tt
 fixed_own Net lends i b is = of_fixed (λ x. AreOwn Net x.message) i b tt tt tt (λ request_id. rndis_own (initialize_reply request_id)) tt is
+fixed_own _ lends i b is = absurd (cc)
 
 module _ (kind : DeviceKind) (lends : lends_on kind ≡ true) where
   abbrev All : List Item → Type 0

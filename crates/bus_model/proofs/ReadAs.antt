@@ -9,52 +9,44 @@ use Rattle.script_lines.specs.declared.line.Ask.{Ask}
 use Rattle.bus_script.specs.declared.outcome.Reply.{Reply}
 use Rattle.channel_model.specs.Lift.{lift, or_else}
 use Rattle.channel_model.specs.WireFormat.{Back, listed, packets_in, packets_of, under_own}
-use Rattle.channel_protocol.specs.Paged.{bare_item}
-use Rattle.device_kinds.specs.Kinds.{ic_reply, disk_reply, disks, kvp_reply, net_reply, nets, pairs, services}
-use Rattle.device_wire.specs.Codecs.{alone, format_by}
-use Rattle.device_wire.specs.Lifted.{among, want_of}
+use Rattle.device_kinds.specs.Kinds.{disks, nets, pairs, services}
+use Rattle.device_wire.specs.Codecs.{Codec, alone, format_by}
+use Rattle.device_wire.specs.Lifted.{Case, among, want_of}
+use Rattle.device_wire.specs.declared.want.Want.{Want}
+use Rattle.device_kinds.specs.declared.device_step.DeviceStep.{DeviceStep}
 use Rattle.device_wire.proofs.LiftedLaws.{replies}
 use Rattle.device_kinds.proofs.KindLaws.{case_disks, case_nets}
-use Rattle.device_packets.specs.Packets.{is_inband}
 use Rattle.device_kinds.specs.Formats.{format_of}
 use Rattle.device_packets.specs.Said.{said_item}
 use Rattle.net_format.specs.PageNets.{message_of, net_ack, net_fixed, net_format, net_gives}
 use Rattle.disk_format.specs.PageDisks.{page_answer, page_codec, page_fixed, page_read, page_waits}
-use Rattle.ic_format.specs.Services.{service_answer, service_codec, service_encode, service_fixed, service_read}
+use Rattle.ic_format.specs.Services.{service_codec}
 use Rattle.disk_format.proofs.PageFormatLaws.{said_answered, said_encoded, said_fixed_so}
 use Rattle.net_format.proofs.NetLaws.{fits_parts}
 use Rattle.net_format.proofs.NetPageLaws.{of_fixed, said_acked, said_back, said_fixed, said_given, said_encoded as said_net_encoded}
-use Rattle.kvp_format.specs.Pairs.{pair_answer, pair_codec, pair_encode, pair_fixed, pair_read}
+use Rattle.kvp_format.specs.Pairs.{pair_codec}
 use Rattle.device_packets.proofs.SaidLaws.{said_bare}
 use Rattle.rndis_msg.specs.declared.rndis.Rndis.{Rndis}
 use Rattle.net_dev.specs.declared.reply.NetReply.{NetReply}
 use Rattle.net_dev.specs.Station.{initialize_reply}
 use Rattle.bus_model.proofs.Made.{AllSo, ReadsSo}
 
--- a service's packets have no page words
-bare_if : (b : Bool) (p : List ℕ) (own : ℕ) → AllSo said_item (packets_in own (cond b (Some (alone (bare_item p))) None))
-bare_if true p own = (said_bare p, tt)
-bare_if false p own = tt
+-- packets of a kind that lends nothing have no page words, where one packet answers each request
+bare_if : (b : Bool) (p : Item) (own : ℕ) → said_item p ≡ p → AllSo said_item (packets_in own (cond b (Some (alone p)) None))
+bare_if true p own so = (so, tt)
+bare_if false p own so = tt
 
-service_so : (kind : DeviceKind) → ReadsSo said_item (lift (format_by (service_codec kind)) (among services))
-service_so kind = record {
-  asks = λ id a. said_bare (service_encode id (want_of services a));
-  given = λ i q r own h fits. (said_bare (service_answer i.packet (or_else services.other (ic_reply r))), tt);
-  fixed = λ i own. bare_if (is_inband i.packet && is_none (service_read kind i.packet)) (service_fixed kind i.packet) own;
-  acked = λ i. said_bare (service_fixed kind i.packet);
-}
-
--- and neither have those of a key-value service
-pair_so : ReadsSo said_item (lift (format_by pair_codec) (among pairs))
-pair_so = record {
-  asks = λ id a. said_bare (pair_encode id (want_of pairs a));
-  given = λ i q r own h fits. (said_bare (pair_answer i.packet (or_else pairs.other (kvp_reply r))), tt);
-  fixed = λ i own. bare_if (is_inband i.packet && is_none (pair_read i.packet)) (pair_fixed i.packet) own;
-  acked = λ i. said_bare (pair_fixed i.packet);
+bare_so : {S Q R : Type 0} (x : Codec Item (Want S Q) Q R) (c : Case S Q R DeviceStep Ask Reply) → ((id : ℕ) (a : Want S Q) → said_item (x.encode id a) ≡ x.encode id a)
+    → ((i : Item) (r : R) → said_item (x.answer i r) ≡ x.answer i r) → ((i : Item) → said_item (x.fixed i) ≡ x.fixed i) → ReadsSo said_item (lift (format_by x) (among c))
+bare_so x c encoded answered fixed = record {
+  asks = λ id a. encoded id (want_of c a);
+  given = λ i q r own h fits. (answered i (or_else c.other (c.own_reply r)), tt);
+  fixed = λ i own. bare_if (x.waits i && is_none (x.read i)) (x.fixed i) own (fixed i);
+  acked = fixed;
 }
 
 -- a disk's answers
-given_so : (i : Item) (q : Ask) (r : Reply) → (format_of Disk).read i ≡ Some q → (format_of Disk).fits q r ≡ true → said_item (page_answer i (or_else disks.other (disk_reply r))) ≡ page_answer i (or_else disks.other (disk_reply r))
+given_so : (i : Item) (q : Ask) (r : Reply) → (format_of Disk).read i ≡ Some q → (format_of Disk).fits q r ≡ true → said_item (page_answer i (or_else disks.other (disks.own_reply r))) ≡ page_answer i (or_else disks.other (disks.own_reply r))
 given_so i q r h fits =
     let own = replies disks case_disks (format_by page_codec) i q r h fits in
     let a = page_answer i own.replied in
@@ -86,7 +78,7 @@ net_messages own (Some m) rest h = (said_back own m, h)
 net_back_so : (own : ℕ) (i : Item) (r : NetReply) → r.status < 2 ^ 32 → AllSo said_item (packets_of own (net_gives i r))
 net_back_so own i r small = net_messages own r.back ((net_gives i r).answer ∷ []) (said_given i (net_gives i r).answer r small refl, tt)
 
-net_given_so : (i : Item) (q : Ask) (r : Reply) (own : ℕ) → (format_of Net).read i ≡ Some q → (format_of Net).fits q r ≡ true → AllSo said_item (packets_of own (net_gives i (or_else nets.other (net_reply r))))
+net_given_so : (i : Item) (q : Ask) (r : Reply) (own : ℕ) → (format_of Net).read i ≡ Some q → (format_of Net).fits q r ≡ true → AllSo said_item (packets_of own (net_gives i (or_else nets.other (nets.own_reply r))))
 net_given_so i q r own h fits =
     let x = replies nets case_nets net_format i q r h fits in
     subst (λ (o : NetReply). AllSo said_item (packets_of own (net_gives i o))) (sym (ap (or_else nets.other) x.is)) (net_back_so own i x.replied (fits_parts x.asked x.replied x.holds).0)
@@ -106,8 +98,8 @@ net_so = record {
 }
 
 pub reads_so : (kind : DeviceKind) → ReadsSo said_item (format_of kind)
-reads_so Beat = service_so Beat
-reads_so Down = service_so Down
+reads_so Beat = bare_so (service_codec Beat) services (λ id a. said_bare _) (λ i r. said_bare _) (λ i. said_bare _)
+reads_so Down = bare_so (service_codec Down) services (λ id a. said_bare _) (λ i r. said_bare _) (λ i. said_bare _)
 reads_so Disk = disk_so
 reads_so Net = net_so
-reads_so Kvp = pair_so
+reads_so Kvp = bare_so pair_codec pairs (λ id a. said_bare _) (λ i r. said_bare _) (λ i. said_bare _)

@@ -3,9 +3,9 @@ use Rattle.std.proofs.Common.{◌≡◌, ℕ, zero, suc, ◌+◌, ◌-◌, ◌*�
 use Rattle.std.specs.Prelude.{map, take, drop, replicate, min, nat_le, slice_get, if◌then◌else◌}
 use Rattle.std.specs.List.{AllByRecursion}
 use Rattle.script_lines.specs.declared.line.Ask.{Ask}
-use Rattle.script_lines.specs.declared.line.Ask.TheVariants.{Ic as AskIc, Disk as AskDisk, Net as AskNet, Kvp as AskKvp}
+use Rattle.script_lines.specs.declared.line.Ask.TheVariants.{Net as AskNet}
 use Rattle.rndis_msg.specs.declared.rndis.Rndis.{Rndis}
-use Rattle.rndis_msg.specs.declared.rndis.Rndis.TheVariants.{Query, Set, Keepalive}
+use Rattle.rndis_msg.specs.declared.rndis.Rndis.TheVariants.{Query}
 use Rattle.rndis_msg.specs.Messages.{body_of}
 use Rattle.net_format.specs.Nets.{with_id, request_id_of}
 use Rattle.device_kinds.specs.Formats.{asked_as}
@@ -33,15 +33,11 @@ FewFor n r = result_room r ≤ n
 
 same_body : (id : ℕ) (m : Rndis) → body_of (with_id id m) ≡ body_of m
 same_body id (Query request_id oid body) = refl
-same_body id (Set request_id oid body) = refl
-same_body id (Keepalive request_id) = refl
-same_body id m = refl
+same_body id _ = refl
 
 same_room : (id : ℕ) (ask : Ask) → room_of (asked_as id ask) ≡ room_of ask
-same_room id (AskIc ask) = refl
-same_room id (AskDisk request) = refl
 same_room id (AskNet message) = ap (λ b. 24 * (40 + length b)) (same_body (request_id_of id) message)
-same_room id (AskKvp request) = refl
+same_room id _ = refl
 
 -- what was served, along the requests
 

@@ -15,9 +15,9 @@ use Rattle.script_text.specs.Forms.{is_name, is_oid, are_bytes, bytes_of, oid_of
 use Rattle.script_text.specs.Words.{is_word, words}
 use Rattle.script_lines.specs.declared.line.Line.{Line}
 use Rattle.script_lines.specs.declared.asked.Asked.{Asked}
-use Rattle.script_lines.specs.declared.asked.Asked.TheVariants.{Beat, Down, Command, Message, Pair}
+use Rattle.script_lines.specs.declared.asked.Asked.TheVariants.{Message}
 use Rattle.script_lines.specs.declared.said.Said.{Said}
-use Rattle.script_lines.specs.declared.said.Said.TheVariants.{Nothing, Contact, Offer, Bad, Ring, Window, Request, Rescind, Close, Modify, Phase}
+use Rattle.script_lines.specs.declared.said.Said.TheVariants.{Nothing, Request}
 use Rattle.script_lines.specs.PairRows.{operation_row, pair_row}
 use Rattle.script_lines.specs.Rows as rows
 use Rattle.script_lines.specs.Rows.{sized, begins_comment, is_printable, said_in, said_by}
@@ -77,24 +77,12 @@ words_total line = omega (arith, filter_total is_word (slice_split (λ b. b == 3
 -- what a line says
 
 abbrev data_asked : Asked → ℕ
-data_asked (Beat seq) = 0
-data_asked (Down flags) = 0
-data_asked (Command ask) = 0
 data_asked (Message message) = length (body_of (unwrap_or message Reset))
-data_asked (Pair request) = 0
+data_asked _ = 0
 
 abbrev data_said : Said → ℕ
-data_said Nothing = 0
-data_said (Contact guest host) = 0
-data_said (Offer name offering) = 0
-data_said (Bad name lba) = 0
-data_said (Ring name pages) = 0
-data_said (Window name size) = 0
 data_said (Request name asked) = data_asked asked
-data_said (Rescind name after held) = 0
-data_said (Close name) = 0
-data_said (Modify name vp) = 0
-data_said Phase = 0
+data_said _ = 0
 
 abbrev data_if : Option Said → ℕ
 data_if None = 0
@@ -140,17 +128,12 @@ sized_short f low high bs own = by_option (sized low high bs) (by_flag _)
     by_option (Some body) short = omega (arith, short, ap length (own body))
 
 contact_half : (n : ℕ) (others : List (List ℕ)) → Half n (rows.contact_row others)
-contact_half n [] = omega arith
-contact_half n (a ∷ []) = omega arith
 contact_half n (a ∷ b ∷ []) = half_some n _ _ refl
-contact_half n (a ∷ b ∷ c ∷ others) = omega arith
+contact_half n _ = omega arith
 
 net_offer_half : (n : ℕ) (others : List (List ℕ)) → Half n (rows.net_offer others)
-net_offer_half n [] = omega arith
-net_offer_half n (a ∷ []) = omega arith
-net_offer_half n (a ∷ b ∷ []) = omega arith
 net_offer_half n (a ∷ b ∷ c ∷ []) = half_some n _ _ refl
-net_offer_half n (a ∷ b ∷ c ∷ d ∷ others) = omega arith
+net_offer_half n _ = omega arith
 
 offer_half : (n : ℕ) (others : List (List ℕ)) → Half n (rows.offer_row others)
 offer_half n [] = omega arith
@@ -160,47 +143,33 @@ offer_half n (kind ∷ others) =
     (half_if n (bytes_eq kind (codes "disk")) _ _ (half_map n _ (rows.name_and_two others) (λ a. refl)) (half_if n (bytes_eq kind (codes "net")) _ _ (net_offer_half n others) (half_if n (bytes_eq kind (codes "kvp")) _ _ (half_map n _ (rows.name_alone others) (λ a. refl)) (half_none n)))))
 
 write_half : (n : ℕ) (others : List (List ℕ)) → Half n (rows.write_row others)
-write_half n [] = omega arith
-write_half n (a ∷ []) = omega arith
-write_half n (a ∷ b ∷ []) = omega arith
-write_half n (a ∷ b ∷ c ∷ []) = omega arith
 write_half n (a ∷ b ∷ c ∷ d ∷ []) = half_some n _ _ refl
-write_half n (a ∷ b ∷ c ∷ d ∷ e ∷ others) = omega arith
+write_half n _ = omega arith
 
 query_half : (n : ℕ) (others : List (List ℕ)) → Half n (rows.query_row others)
-query_half n [] = omega arith
-query_half n (a ∷ []) = omega arith
 query_half n (a ∷ b ∷ []) = half_some n _ _ refl
-query_half n (a ∷ b ∷ c ∷ others) = omega arith
+query_half n _ = omega arith
 
 set_half : (others : List (List ℕ)) → Half (total others) (rows.set_row others)
-set_half [] = omega arith
-set_half (a ∷ []) = omega arith
-set_half (a ∷ b ∷ []) = omega arith
 set_half (a ∷ b ∷ c ∷ []) =
     half_if (total (a ∷ b ∷ c ∷ [])) (is_name a && is_oid b && are_bytes c) (Some (Request a (Message (rows.set_said b c)))) None (omega (arith, sized_short (λ body. Set 0 (oid_of b) body) 1 64 (bytes_of c) (λ body. refl), bytes_half c)) (half_none (total (a ∷ b ∷ c ∷ [])))
-set_half (a ∷ b ∷ c ∷ d ∷ others) = omega arith
+set_half _ = omega arith
 
 frame_half : (others : List (List ℕ)) → Half (total others) (rows.frame_row others)
-frame_half [] = omega arith
-frame_half (a ∷ []) = omega arith
 frame_half (a ∷ b ∷ []) = half_if (total (a ∷ b ∷ [])) (is_name a && are_bytes b) (Some (Request a (Message (rows.frame_said b)))) None (omega (arith, sized_short (λ body. Packet body) 14 1514 (bytes_of b) (λ body. refl), bytes_half b)) (half_none (total (a ∷ b ∷ [])))
-frame_half (a ∷ b ∷ c ∷ others) = omega arith
+frame_half _ = omega arith
 
 rescind_half : (n : ℕ) (others : List (List ℕ)) → Half n (rows.rescind_row others)
-rescind_half n [] = omega arith
-rescind_half n (a ∷ []) = omega arith
-rescind_half n (a ∷ b ∷ []) = omega arith
 rescind_half n (a ∷ b ∷ c ∷ others) = half_if n _ _ None (half_map n _ (rows.held_row others) (λ held. refl)) (half_none n)
+rescind_half n _ = omega arith
 
 phase_half : (n : ℕ) (others : List (List ℕ)) → Half n (rows.phase_row others)
 phase_half n [] = omega arith
 phase_half n (a ∷ others) = omega arith
 
 pair_half : (n : ℕ) (others : List (List ℕ)) → Half n (pair_row others)
-pair_half n [] = omega arith
-pair_half n (a ∷ []) = omega arith
 pair_half n (a ∷ b ∷ others) = half_if n _ _ None (half_map n _ (operation_row b others) (λ request. refl)) (half_none n)
+pair_half n _ = omega arith
 
 net_half : (key : List ℕ) (others : List (List ℕ)) → Half (total others) (rows.net_row key others)
 net_half key others =
@@ -248,24 +217,12 @@ data_append [] ys = omega arith
 data_append (x ∷ xs) ys = omega (arith, data_append xs ys)
 
 asked_data : (number : ℕ) (name : List ℕ) (o : Option ℕ) (asked : Asked) → data_by (numbered number (what_of o (Request name asked))) ≤ data_asked asked
-asked_data number name o (Beat seq) = omega arith
-asked_data number name o (Down flags) = omega arith
-asked_data number name o (Command ask) = omega arith
 asked_data number name o (Message message) = omega arith
-asked_data number name o (Pair request) = omega arith
+asked_data number name o _ = omega arith
 
 what_data : (number : ℕ) (device : Option ℕ) (said : Said) → data_by (numbered number (what_of device said)) ≤ data_said said
-what_data number device Nothing = omega arith
-what_data number device (Contact guest host) = omega arith
-what_data number device (Offer name offering) = omega arith
-what_data number device (Bad name lba) = omega arith
-what_data number device (Ring name pages) = omega arith
-what_data number device (Window name size) = omega arith
 what_data number device (Request name asked) = asked_data number name device asked
-what_data number device (Rescind name after held) = omega arith
-what_data number device (Close name) = omega arith
-what_data number device (Modify name vp) = omega arith
-what_data number device Phase = omega arith
+what_data number device _ = omega arith
 
 said_data : (number : ℕ) (before : List Line) (o : Option Said) → data_by (said_lines number before o) ≤ data_if o
 said_data number before None = omega arith

@@ -10,11 +10,11 @@ use Rattle.contact.specs.declared.kind.DeviceKind.{DeviceKind}
 use Rattle.scsi_disk.proofs.RoomLaws.{by_test}
 use Rattle.script_lines.specs.declared.line.Line.{Line}
 use Rattle.script_lines.specs.declared.line.What.{What}
-use Rattle.script_lines.specs.declared.line.What.TheVariants.{Contact as IsContact, Offer as IsOffer, Bad as IsBad, RingSize as IsRingSize, Window as IsWindow, Ask as IsAsk, Rescind as IsRescind, Shut as IsShut, Modify as IsModify, Phase as IsPhase}
+use Rattle.script_lines.specs.declared.line.What.TheVariants.{Contact as IsContact, Offer as IsOffer, Ask as IsAsk, Modify as IsModify, Phase as IsPhase}
 use Rattle.script_lines.specs.declared.line.Ask.{Ask}
-use Rattle.script_lines.specs.declared.line.Ask.TheVariants.{Ic as AskIc, Disk as AskDisk, Net as AskNet, Kvp as AskKvp}
+use Rattle.script_lines.specs.declared.line.Ask.TheVariants.{Net as AskNet}
 use Rattle.script_lines.specs.declared.line.DeviceSpec.{DeviceSpec}
-use Rattle.script_lines.specs.Lines.{Says, Asks, Rescinds, Shuts, Modifies, said, is_phase}
+use Rattle.script_lines.specs.Lines.{Says, Asks, said, is_phase}
 use Rattle.script_lines.specs.Parts.{ends_part, parts, offered, offered_by, channels_of, kind_of, kind_asked}
 use Rattle.script_lines.specs.WellFormed.{IsDevice, IsRight, AllRight}
 use Rattle.script_phases.specs.Says.{heard_by, said_to, asked, asks_of, is_rescinded, is_shut}
@@ -36,7 +36,7 @@ use Rattle.bus_model.specs.Run.{Carried, IsCarried, seats_of, EachGrows, Source,
 use Rattle.bus_model.specs.declared.channel_run.ChannelRun.{ChannelRun}
 use Rattle.bus_model.proofs.Lists.{each_append, each_map, each_unmap, each_if, each_filter, each_unfilter, each_split, each_swap, IfThere}
 use Rattle.bus_model.proofs.SeatLogs.{grows_with}
-use Rattle.bus_report_bound.specs.Laws.{data_in, data_by, room_of, room_in, room_by, FewRunsBack, ReportFits}
+use Rattle.bus_report_bound.specs.Laws.{data_of, data_in, data_by, room_of, room_in, room_by, FewRunsBack, ReportFits}
 use Rattle.bus_report_bound.proofs.Along.{FewReply, FewServed, FewFor}
 use Rattle.bus_report_bound.proofs.DataLines.{data_stands}
 use Rattle.bus_report_bound.proofs.Replies.{PlainLog, FewLog, histories_few}
@@ -60,9 +60,7 @@ heard_no_ask false s none = tt
 heard_plain : (device : ℕ) (o : Option (ℕ × Says)) → IfSome o (λ s. PlainSays s.1) → AllByRecursion PlainAsk (flat_map asked (heard_by device o))
 heard_plain device None plain = tt
 heard_plain device (Some (d, Asks ask)) plain = heard_ask (nat_eq d device) ask plain
-heard_plain device (Some (d, Rescinds after held)) plain = heard_no_ask (nat_eq d device) (Rescinds after held) refl
-heard_plain device (Some (d, Shuts)) plain = heard_no_ask (nat_eq d device) Shuts refl
-heard_plain device (Some (d, Modifies vp)) plain = heard_no_ask (nat_eq d device) (Modifies vp) refl
+heard_plain device (Some (d, s)) plain = heard_no_ask (nat_eq d device) s refl
 
 asks_plain : (device : ℕ) (part : List Line) → AllByRecursion PlainLine part → AllByRecursion PlainAsk (asks_of device part)
 asks_plain device [] plain = tt
@@ -83,10 +81,8 @@ each_take P (suc n) (x ∷ xs) all = (all.0, each_take P n xs all.1)
 -- a request has the same data under each id
 
 same_plain : (id : ℕ) (ask : Ask) → PlainAsk ask → PlainAsk (asked_as id ask)
-same_plain id (AskIc ask) plain = tt
-same_plain id (AskDisk request) plain = plain
-same_plain id (AskNet message) plain = tt
-same_plain id (AskKvp request) plain = tt
+same_plain id (AskNet message) plain = plain
+same_plain id _ plain = plain
 
 under_plain : (ids : List ℕ) (asks : List Ask) → AllByRecursion PlainAsk asks → AllByRecursion PlainAsk (asked_under ids asks)
 under_plain [] asks plain = tt
@@ -109,12 +105,11 @@ seats_plain device channels all =
 
 grows_plain : (device : ℕ) (channels : List Carried) (before after : List (List Recorded)) → EachGrows device channels before after → AllByRecursion (λ c. PlainServed c.served) channels → AllByRecursion PlainLog before → AllByRecursion PlainLog after
 grows_plain device channels [] [] each all old = tt
-grows_plain device channels [] (a ∷ after) each all old = absurd each
-grows_plain device channels (b ∷ before) [] each all old = absurd each
 grows_plain device channels (b ∷ before) (a ∷ after) each all old = (
   grows_with PlainAsk b a (map (λ (c : Carried). c.served) (seats_of device channels)) each.0 old.0 (seats_plain device channels all),
   grows_plain (device + 1) channels before after each.1 all old.1,
 )
+grows_plain device channels _ _ each all old = absurd each
 
 run_plain : (version : ℕ) (specs : List DeviceSpec) (number next : ℕ) (earlier : List Line) (ps : List (List Line)) (before : List (List Recorded)) (settled : List ChannelRun) (after : List (List Recorded)) (results : List LineResult)
     → RunsOf (phases_from version specs number next earlier ps) before settled after results → AllByRecursion (AllByRecursion PlainLine) ps → AllByRecursion PlainLog before → AllByRecursion PlainLog after
@@ -138,8 +133,6 @@ record FewBefore (device : ℕ) (channels : List Carried) (before after : List (
 
 grows_few : (device : ℕ) (channels : List Carried) (before after : List (List Recorded)) → EachGrows device channels before after → AllByRecursion FewLog after → FewBefore device channels before after
 grows_few device channels [] [] each few = record { logs = tt; long = refl; served = λ j within. absurd (omega (arith, within.0, within.1)) }
-grows_few device channels [] (a ∷ after) each few = absurd each
-grows_few device channels (b ∷ before) [] each few = absurd each
 grows_few device channels (b ∷ before) (a ∷ after) each few =
     let here = entries_with FewReply b a (map (λ (c : Carried). c.served) (seats_of device channels)) each.0 few.0 in
     let rest = grows_few (device + 1) channels before after each.1 few.1 in
@@ -151,6 +144,7 @@ grows_few device channels (b ∷ before) (a ∷ after) each few =
           (λ is. let same : device ≡ j = grind (arith, nat_tests, is) in subst (λ k. AllByRecursion (λ c. nat_eq c.opening.device k ≡ true → FewServed c.served) channels) same (seats_few device channels here.1))
           (λ is. let low : device + 1 ≤ j = grind (arith, nat_tests, is, within.0) in rest.served j (low, omega (arith, within.1)));
     }
+grows_few device channels _ _ each few = absurd each
 
 -- each channel is one of a device that was offered
 
@@ -181,28 +175,20 @@ channels_few many (c ∷ channels) within few =
 
 abbrev Each2 : {A B : Type 0} → (A → B → Type 0) → List A → List B → Type 0
 Each2 P [] [] = Unit {0}
-Each2 P [] (y ∷ ys) = ⊥
-Each2 P (x ∷ xs) [] = ⊥
 Each2 P (x ∷ xs) (y ∷ ys) = P x y × Each2 P xs ys
+Each2 P _ _ = ⊥
 
 each2_append : {A B : Type 0} (P : A → B → Type 0) (xs xs' : List A) (ys ys' : List B) → Each2 P xs ys → Each2 P xs' ys' → Each2 P (xs ++ xs') (ys ++ ys')
 each2_append P [] xs' [] ys' first second = second
-each2_append P [] xs' (y ∷ ys) ys' first second = absurd first
-each2_append P (x ∷ xs) xs' [] ys' first second = absurd first
 each2_append P (x ∷ xs) xs' (y ∷ ys) ys' first second = (first.0, each2_append P xs xs' ys ys' first.1 second)
+each2_append P _ xs' _ ys' first second = absurd first
 
 -- what each line that prints has
 abbrev sent_by : What → List ℕ
 sent_by (IsContact guest host) = 0 ∷ []
-sent_by (IsOffer name spec) = []
-sent_by (IsBad d lba) = []
-sent_by (IsRingSize d pages) = []
-sent_by (IsWindow d size) = []
 sent_by (IsAsk d ask) = room_of ask ∷ []
-sent_by (IsRescind d after held) = []
-sent_by (IsShut d) = []
 sent_by (IsModify d vp) = 0 ∷ []
-sent_by IsPhase = []
+sent_by _ = []
 
 abbrev sent_in : List Line → List ℕ
 sent_in [] = []
@@ -261,17 +247,11 @@ offered_spec (s ∷ specs) (suc device) kind at = offered_spec specs device kind
 
 source_fine : (specs : List DeviceSpec) (p : Phase) (before rest : List Line) (l : Line) (w : What) → l.what ≡ w → p.part ≡ before ++ l ∷ rest → IsRight specs w → Each2 (FineSource specs p.part) (source_of p before w) (sent_by w)
 source_fine specs p before rest l (IsContact guest host) what is right = (omega arith, tt)
-source_fine specs p before rest l (IsOffer name spec) what is right = tt
-source_fine specs p before rest l (IsBad d lba) what is right = tt
-source_fine specs p before rest l (IsRingSize d pages) what is right = tt
-source_fine specs p before rest l (IsWindow d size) what is right = tt
 source_fine specs p before rest l (IsAsk d ask) what is right =
     let found = offered_spec specs d (kind_asked ask) right in
     (ended_fine specs p.part (is_rescinded d p.earlier) (is_shut d p.earlier) d (length (asks_of d before)) (room_of ask) (record { ask = ask; at = ask_there p.part before rest l d ask is what; sent = refl; spec = found.0; offered = found.1 }), tt)
-source_fine specs p before rest l (IsRescind d after held) what is right = tt
-source_fine specs p before rest l (IsShut d) what is right = tt
 source_fine specs p before rest l (IsModify d vp) what is right = (moved_fine specs p.part (is_rescinded d p.earlier) (is_shut d p.earlier) p.version vp, tt)
-source_fine specs p before rest l IsPhase what is right = tt
+source_fine specs p before rest l _ what is right = tt
 
 sources_fine : (specs : List DeviceSpec) (p : Phase) (before part : List Line) → p.part ≡ before ++ part → AllByRecursion (λ l. IsRight specs l.what) part → Each2 (FineSource specs p.part) (sources_from p before part) (sent_in part)
 sources_fine specs p before [] is right = tt
@@ -295,14 +275,11 @@ module _ (p : Phase) (next : ℕ) (specs : List DeviceSpec) (channels : List Car
 
   told_few : (told : List LineResult) (ss : List Source) (sent : List ℕ) → map (λ r. Some r) told ≡ map (outcome_at p channels) ss → Each2 (FineSource specs p.part) ss sent → FewTold told sent
   told_few [] [] [] is fine = tt
-  told_few [] [] (n ∷ sent) is fine = absurd fine
-  told_few [] (s ∷ ss) sent is fine = absurd (cc)
-  told_few (r ∷ told) [] sent is fine = absurd (cc)
-  told_few (r ∷ told) (s ∷ ss) [] is fine = absurd fine
   told_few (r ∷ told) (s ∷ ss) (n ∷ sent) is fine =
       let head : Some r ≡ outcome_at p channels s = cc in
       let tail : map (λ r. Some r) told ≡ map (outcome_at p channels) ss = cc in
       (source_few s n r fine.0 head, told_few told ss sent tail fine.1)
+  told_few _ _ _ is fine = absurd (first_of (assumption (fine), cc (is)))
 
 record FewPhase (before : List (List Recorded)) (after : List (List Recorded)) (told : List LineResult) (sent : List ℕ) : Type 0 where
   pub logs : AllByRecursion FewLog before
@@ -325,9 +302,8 @@ phase_few p next specs before after runs told one opened within right few =
 -- how many histories there are
 grows_long : (device : ℕ) (channels : List Carried) (before after : List (List Recorded)) → EachGrows device channels before after → length after ≡ length before
 grows_long device channels [] [] each = refl
-grows_long device channels [] (a ∷ after) each = absurd each
-grows_long device channels (b ∷ before) [] each = absurd each
 grows_long device channels (b ∷ before) (a ∷ after) each = ap suc (grows_long (device + 1) channels before after each.1)
+grows_long device channels _ _ each = absurd each
 
 -- what all phases have
 abbrev sent_all : List (List Line) → List ℕ
@@ -355,21 +331,12 @@ all_append (x ∷ xs) ys = omega (arith, all_append xs ys)
 
 sum_few : (results : List LineResult) (sent : List ℕ) → FewTold results sent → room_back results ≤ in_all sent
 sum_few [] [] few = omega arith
-sum_few [] (n ∷ sent) few = absurd few
-sum_few (r ∷ results) [] few = absurd few
 sum_few (r ∷ results) (n ∷ sent) few = omega (arith, sum_by-cons result_room r results, few.0, sum_few results sent few.1)
+sum_few _ _ few = absurd few
 
 line_sent : (w : What) → in_all (sent_by w) ≡ room_in w
-line_sent (IsContact guest host) = refl
-line_sent (IsOffer name spec) = refl
-line_sent (IsBad d lba) = refl
-line_sent (IsRingSize d pages) = refl
-line_sent (IsWindow d size) = refl
 line_sent (IsAsk d ask) = omega arith
-line_sent (IsRescind d after held) = refl
-line_sent (IsShut d) = refl
-line_sent (IsModify d vp) = refl
-line_sent IsPhase = refl
+line_sent _ = refl
 
 -- the phases' lines are the script's
 
@@ -378,16 +345,8 @@ onto_sent l [] = omega (arith, all_append (sent_by l.what ++ []) [], all_append 
 onto_sent l (p ∷ ps) = omega (arith, all_append (sent_by l.what ++ sent_in p) (sent_all ps), all_append (sent_by l.what) (sent_in p), all_append (sent_in p) (sent_all ps), line_sent l.what)
 
 split_sent : (l : Line) (w : What) → l.what ≡ w → (ps : List (List Line)) → in_all (sent_all (cond (is_phase w) ([] ∷ ps) (onto_first l ps))) ≡ room_in w + in_all (sent_all ps)
-split_sent l (IsContact guest host) is ps = onto_sent l ps ∙ ap (λ w. room_in w + in_all (sent_all ps)) is
-split_sent l (IsOffer name spec) is ps = onto_sent l ps ∙ ap (λ w. room_in w + in_all (sent_all ps)) is
-split_sent l (IsBad d lba) is ps = onto_sent l ps ∙ ap (λ w. room_in w + in_all (sent_all ps)) is
-split_sent l (IsRingSize d pages) is ps = onto_sent l ps ∙ ap (λ w. room_in w + in_all (sent_all ps)) is
-split_sent l (IsWindow d size) is ps = onto_sent l ps ∙ ap (λ w. room_in w + in_all (sent_all ps)) is
-split_sent l (IsAsk d ask) is ps = onto_sent l ps ∙ ap (λ w. room_in w + in_all (sent_all ps)) is
-split_sent l (IsRescind d after held) is ps = onto_sent l ps ∙ ap (λ w. room_in w + in_all (sent_all ps)) is
-split_sent l (IsShut d) is ps = onto_sent l ps ∙ ap (λ w. room_in w + in_all (sent_all ps)) is
-split_sent l (IsModify d vp) is ps = onto_sent l ps ∙ ap (λ w. room_in w + in_all (sent_all ps)) is
 split_sent l IsPhase is ps = omega arith
+split_sent l _ is ps = onto_sent l ps ∙ ap (λ w. room_in w + in_all (sent_all ps)) is
 
 parts_sent : (lines : List Line) → in_all (sent_all (slice_split ends_part lines)) ≡ room_by lines
 parts_sent [] = refl
@@ -400,16 +359,8 @@ all_right kinds [] right = tt
 all_right kinds (l ∷ lines) right = (right.0, all_right kinds lines right.1)
 
 device_right : (kinds : List DeviceSpec) (w : What) → IsRight kinds w → AllByRecursion IsDevice (offered_by w)
-device_right kinds (IsContact guest host) right = tt
 device_right kinds (IsOffer name spec) right = (right, tt)
-device_right kinds (IsBad d lba) right = tt
-device_right kinds (IsRingSize d pages) right = tt
-device_right kinds (IsWindow d size) right = tt
-device_right kinds (IsAsk d ask) right = tt
-device_right kinds (IsRescind d after held) right = tt
-device_right kinds (IsShut d) right = tt
-device_right kinds (IsModify d vp) right = tt
-device_right kinds IsPhase right = tt
+device_right kinds _ right = tt
 
 devices_right : (kinds : List DeviceSpec) (lines : List Line) → AllRight kinds lines → AllByRecursion IsDevice (offered lines)
 devices_right kinds [] right = tt
@@ -427,20 +378,13 @@ few_runs_back_lem bytes lines settled histories results reads script run =
 
 -- a key-value line has the most room of all, beside the bytes that messages sent
 
+ask_most : (ask : Ask) → room_of ask ≤ 1278 + 24 * data_of ask
+ask_most (AskNet message) = omega arith
+ask_most _ = omega arith
+
 room_most : (w : What) → room_in w ≤ 1278 + 24 * data_in w
-room_most (IsContact guest host) = omega arith
-room_most (IsOffer name spec) = omega arith
-room_most (IsBad d lba) = omega arith
-room_most (IsRingSize d pages) = omega arith
-room_most (IsWindow d size) = omega arith
-room_most (IsAsk d (AskIc ask)) = omega arith
-room_most (IsAsk d (AskDisk request)) = omega arith
-room_most (IsAsk d (AskNet message)) = omega arith
-room_most (IsAsk d (AskKvp request)) = omega arith
-room_most (IsRescind d after held) = omega arith
-room_most (IsShut d) = omega arith
-room_most (IsModify d vp) = omega arith
-room_most IsPhase = omega arith
+room_most (IsAsk d ask) = omega (arith, ask_most ask)
+room_most _ = omega arith
 
 all_room : (lines : List Line) → room_by lines ≤ 1278 * length lines + 24 * data_by lines
 all_room [] = omega arith

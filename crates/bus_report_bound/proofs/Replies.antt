@@ -13,10 +13,6 @@ use Rattle.scsi_disk.specs.DiskModel.{new_disk}
 use Rattle.scsi_disk.specs.declared.request.DiskRequest.{DiskRequest}
 use Rattle.scsi_disk.specs.declared.reply.DiskReply.{DiskReply}
 use Rattle.scsi_disk.proofs.OneByteLaws.{IsOneByte, new_plain}
-use Rattle.util_ic.specs.declared.ic.IcAsk.{IcAsk}
-use Rattle.util_ic.specs.declared.ic.IcAnswer.{IcAnswer}
-use Rattle.kvp_ic.specs.declared.message.Kvp.{Kvp as Message}
-use Rattle.kvp_ic.specs.declared.message.KvpReply.{KvpReply}
 use Rattle.rndis_msg.specs.declared.rndis.Rndis.{Rndis}
 use Rattle.rndis_msg.specs.declared.rndis.Rndis.TheVariants.{Packet, Initialize, Halt, Query, Set, SetComplete, Reset, ResetComplete, Keepalive, KeepaliveComplete}
 use Rattle.rndis_msg.specs.declared.fault.RndisFault.{RndisFault}
@@ -35,7 +31,7 @@ use Rattle.script_lines.specs.WellFormed.{IsDevice}
 use Rattle.script_lines.proofs.Plain.{PlainAsk}
 use Rattle.bus_script.specs.Report.{disk_runs, net_runs}
 use Rattle.device_kinds.specs.Served.{message_asked}
-use Rattle.device_kinds.specs.Logs.{Recorded, ic_calls, disk_calls, net_calls, kvp_calls, log_by, log_of, new_station, IsHistory, EachHistory}
+use Rattle.device_kinds.specs.Logs.{Recorded, Logged, ic_calls, disk_calls, net_calls, kvp_calls, log_by, log_of, new_station, IsHistory, EachHistory}
 use Rattle.device_kinds.specs.declared.history.DeviceHistory.{DeviceHistory}
 use Rattle.device_kinds.specs.declared.history.DeviceHistory.TheVariants.{Beat as BeatHistory, Down as DownHistory, Disk as DiskHistory, Net as NetHistory, Kvp as KvpHistory}
 use Rattle.bus_report_bound.specs.Laws.{data_of, room_of}
@@ -51,9 +47,10 @@ PlainLog log = AllByRecursion (λ e. PlainAsk e.ask) log
 abbrev pub FewLog : List Recorded → Type 0
 FewLog log = AllByRecursion (λ e. FewReply e.ask e.reply) log
 
-ic_few : {S : Type 0} (es : List (Entry S IcAsk IcAnswer)) → FewLog (log_by ic_calls es)
-ic_few [] = tt
-ic_few (e ∷ es) = (omega arith, ic_few es)
+-- replies that have no bytes
+bare_few : {S Q A : Type 0} (m : Logged Q A) → ((q : Q) (a : A) → FewReply (m.asked q) (m.told a)) → (es : List (Entry S Q A)) → FewLog (log_by m es)
+bare_few m each [] = tt
+bare_few m each (e ∷ es) = (each e.request e.reply, bare_few m each es)
 
 disk_ones : {S : Type 0} (es : List (Entry S DiskRequest DiskReply)) → PlainLog (log_by disk_calls es) → AllByRecursion (λ e. IsOneByte e.request.out) es
 disk_ones [] plain = tt
@@ -129,22 +126,17 @@ net_few s [] has log = tt
 net_few s (e ∷ es) has log =
     (net_room e.request e.reply.back (subst (λ (r : NetReply). net_runs r.back ≤ 40 + data_of (message_asked e.request)) (sym log.0) (station_few s e.request has)), net_few (station_after s e.request) es (record { mac = has.mac; station = has.station }) log.1)
 
-kvp_few : {S : Type 0} (es : List (Entry S Message KvpReply)) → FewLog (log_by kvp_calls es)
-kvp_few [] = tt
-kvp_few (e ∷ es) = (omega arith, kvp_few es)
-
 history_few : (kind : DeviceSpec) (bad : List ℕ) (h : DeviceHistory) → IsDevice kind → IsHistory kind bad h → PlainLog (log_of h) → FewLog (log_of h)
-history_few Beat bad (BeatHistory h) device is plain = ic_few (entries_of h)
-history_few Down bad (DownHistory h) device is plain = ic_few (entries_of h)
+history_few Beat bad (BeatHistory h) device is plain = bare_few ic_calls (λ q a. omega arith) (entries_of h)
+history_few Down bad (DownHistory h) device is plain = bare_few ic_calls (λ q a. omega arith) (entries_of h)
 history_few (Disk blocks subs) bad (DiskHistory h) device is plain =
     disk_few (entries_of h) (entries_few (new_disk blocks bad) (entries_of h) (new_plain blocks bad) (disk_ones (entries_of h) plain) is)
 history_few (Net mac station) bad (NetHistory h) device is plain = net_few (new_station mac station) (entries_of h) (record { mac = device.0; station = device.1 }) is
-history_few Kvp bad (KvpHistory h) device is plain = kvp_few (entries_of h)
+history_few Kvp bad (KvpHistory h) device is plain = bare_few kvp_calls (λ q a. omega arith) (entries_of h)
 history_few _ bad _ device is plain = absurd is
 
 pub histories_few : (lines : List Line) (device : ℕ) (kinds : List DeviceSpec) (histories : List DeviceHistory) → AllByRecursion IsDevice kinds → EachHistory lines device kinds histories → AllByRecursion PlainLog (map log_of histories)
     → AllByRecursion FewLog (map log_of histories)
 histories_few lines device [] [] right each plain = tt
-histories_few lines device [] (h ∷ histories) right each plain = absurd each
-histories_few lines device (k ∷ kinds) [] right each plain = absurd each
 histories_few lines device (k ∷ kinds) (h ∷ histories) right each plain = (history_few k (bads_of device lines) h right.0 each.0 plain.0, histories_few lines (device + 1) kinds histories right.1 each.1 plain.1)
+histories_few lines device _ _ right each plain = absurd each

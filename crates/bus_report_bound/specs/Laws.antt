@@ -2,7 +2,7 @@
 use Rattle.std.specs.Prelude.{ℕ, ◌≡◌, ◌≤◌, ◌+◌, ◌*◌, List, [], ◌∷◌, length, Ok}
 use Rattle.std.specs.Option.{option_map_or}
 use Rattle.rndis_msg.specs.Messages.{body_of}
-use Rattle.script_lines.specs.Lines.{Says, Asks, Rescinds, Shuts, Modifies, said}
+use Rattle.script_lines.specs.Lines.{Says, Asks, said}
 use Rattle.script_lines.specs.Grammar.{script_of}
 use Rattle.script_lines.specs.WellFormed.{IsScript}
 use Rattle.script_lines.specs.declared.line.Line.{Line}
@@ -17,17 +17,13 @@ use Rattle.device_kinds.specs.declared.history.DeviceHistory.{DeviceHistory}
 
 -- how many bytes the buffer of a message for an adapter has
 abbrev pub data_of : Ask → ℕ
-data_of (AskIc ask) = 0
-data_of (AskDisk request) = 0
 data_of (AskNet message) = length (body_of message)
-data_of (AskKvp request) = 0
+data_of _ = 0
 
 -- and those of what lines ask
 abbrev pub data_said : Says → ℕ
 data_said (Asks ask) = data_of ask
-data_said (Rescinds after held) = 0
-data_said Shuts = 0
-data_said (Modifies vp) = 0
+data_said _ = 0
 
 abbrev pub data_in : What → ℕ
 data_in what = option_map_or (λ s. data_said s.1) (said what) 0
@@ -47,9 +43,7 @@ room_of (AskKvp request) = 255 + 1023
 -- and those to what lines ask
 abbrev pub room_said : Says → ℕ
 room_said (Asks ask) = room_of ask
-room_said (Rescinds after held) = 0
-room_said Shuts = 0
-room_said (Modifies vp) = 0
+room_said _ = 0
 
 abbrev pub room_in : What → ℕ
 room_in what = option_map_or (λ s. room_said s.1) (said what) 0

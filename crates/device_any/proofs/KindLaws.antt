@@ -1,7 +1,7 @@
 -- Of which kind a device is, and what its model is then.
 use Rattle.std.proofs.Common.{◌≡◌, ◌⊎◌, inl, inr, ◌<◌, ◌^◌, ℕ, Bool, true, Option, Some, None, refl, sym, ap, subst, ◌∙◌}
 use Rattle.contact.specs.declared.kind.DeviceKind.{DeviceKind}
-use Rattle.contact.specs.declared.kind.DeviceKind.TheVariants.{Beat, Down, Disk, Net, Kvp}
+use Rattle.contact.specs.declared.kind.DeviceKind.TheVariants.{Beat, Down, Disk, Net}
 use Rattle.scsi_disk.specs.declared.reply.DiskReply.{DiskReply}
 use Rattle.rndis_msg.specs.declared.rndis.Rndis.{Rndis}
 use Rattle.net_dev.specs.declared.reply.NetReply.{NetReply}
@@ -12,30 +12,22 @@ use Rattle.page_kept.specs.declared.item.Item.{Item}
 use Rattle.channel_model.specs.Lift.{both_hold}
 use Rattle.device_wire.specs.Lifted.{lift_model}
 use Rattle.device_wire.proofs.LiftedLaws.{reply_fits}
-use Rattle.ic_format.specs.Services.{ic_model, service_fits}
-use Rattle.disk_format.specs.Disks.{disk_fits}
-use Rattle.disk_format.specs.PageDisks.{disk_model}
-use Rattle.net_format.specs.Nets.{net_fits, back_in_form}
+use Rattle.ic_format.specs.Services.{ic_model}
+use Rattle.net_format.specs.Nets.{back_in_form}
 use Rattle.net_format.specs.PageNets.{net_model}
 use Rattle.net_format.proofs.NetLaws.{fits_parts}
-use Rattle.kvp_format.specs.Pairs.{kvp_model, pair_fits}
-use Rattle.device_kinds.specs.Kinds.{services, disks, nets, pairs, ic_request, net_request, disk_request, kvp_request, net_reply, model_of}
+use Rattle.device_kinds.specs.Kinds.{services, nets, model_of}
 use Rattle.device_kinds.specs.Formats.{fits_on, read_on}
 use Rattle.device_kinds.proofs.KindLaws.{case_nets}
 
--- its model, by its kind; `own` is the kind of the wire that was made for it
-pub service_at : (inside now own : DeviceKind) → (inside ≡ Beat) ⊎ (inside ≡ Down) → inside ≡ now → own ≡ inside → model_of now ≡ lift_model (ic_model own) services
-service_at inside now own (inl is) seen of = ap model_of (sym seen ∙ is) ∙ ap (λ k. lift_model (ic_model k) services) (sym (of ∙ is))
-service_at inside now own (inr is) seen of = ap model_of (sym seen ∙ is) ∙ ap (λ k. lift_model (ic_model k) services) (sym (of ∙ is))
+-- its model, by its kind
+pub model_at : {inside now kind : DeviceKind} → inside ≡ kind → inside ≡ now → model_of now ≡ model_of kind
+model_at is seen = ap model_of (sym seen ∙ is)
 
-pub disk_at : (inside now : DeviceKind) → inside ≡ Disk → inside ≡ now → model_of now ≡ lift_model disk_model disks
-disk_at inside now is seen = ap model_of (sym seen ∙ is)
-
-pub net_at : (inside now : DeviceKind) → inside ≡ Net → inside ≡ now → model_of now ≡ lift_model net_model nets
-net_at inside now is seen = ap model_of (sym seen ∙ is)
-
-pub kvp_at : (inside now : DeviceKind) → inside ≡ Kvp → inside ≡ now → model_of now ≡ lift_model kvp_model pairs
-kvp_at inside now is seen = ap model_of (sym seen ∙ is)
+-- a service's; `own` is the kind of the wire that was made for it
+pub service_at : {inside now own : DeviceKind} → (inside ≡ Beat) ⊎ (inside ≡ Down) → inside ≡ now → own ≡ inside → model_of now ≡ lift_model (ic_model own) services
+service_at (inl is) seen of = model_at is seen ∙ ap (λ k. lift_model (ic_model k) services) (sym (of ∙ is))
+service_at (inr is) seen of = model_at is seen ∙ ap (λ k. lift_model (ic_model k) services) (sym (of ∙ is))
 
 -- its kind, by a reply that fits
 none_fits : {Q R : Type 0} (fits : Q → R → Bool) (q : Option Q) {X : Type 0} → both_hold fits q None ≡ true → X
@@ -43,18 +35,12 @@ none_fits fits None h = absurd (cc)
 none_fits fits (Some q) h = absurd (cc)
 
 pub fits_disk : (kind : DeviceKind) (q : Ask) (r : DiskReply) → fits_on kind q (ReplyDisk r) ≡ true → kind ≡ Disk
-fits_disk Beat q r h = none_fits (service_fits Beat) (ic_request q) h
-fits_disk Down q r h = none_fits (service_fits Down) (ic_request q) h
 fits_disk Disk q r h = refl
-fits_disk Net q r h = none_fits net_fits (net_request q) h
-fits_disk Kvp q r h = none_fits pair_fits (kvp_request q) h
+fits_disk _ q r h = none_fits _ _ h
 
 fits_net : (kind : DeviceKind) (q : Ask) (status : ℕ) (back : Option Rndis) → fits_on kind q (ReplyNet status back) ≡ true → kind ≡ Net
-fits_net Beat q status back h = none_fits (service_fits Beat) (ic_request q) h
-fits_net Down q status back h = none_fits (service_fits Down) (ic_request q) h
-fits_net Disk q status back h = none_fits disk_fits (disk_request q) h
 fits_net Net q status back h = refl
-fits_net Kvp q status back h = none_fits pair_fits (kvp_request q) h
+fits_net _ q status back h = none_fits _ _ h
 
 -- a reply of an adapter that fits
 pub record Given (kind : DeviceKind) (status : ℕ) (back : Option Rndis) : Type 0 where
@@ -66,6 +52,6 @@ pub net_given : (kind : DeviceKind) (i : Item) (reply : Reply) (status : ℕ) (b
 net_given kind i reply status back is q reads fits =
     let r : NetReply = record { status = status; back = back } in
     let kind_is = fits_net kind q status back (subst (λ x. fits_on kind q x ≡ true) is fits) in
-    let own = reply_fits nets net_model (model_of kind) (ap model_of kind_is) case_nets i q reply r (ap net_reply is) reads fits in
+    let own = reply_fits nets net_model (model_of kind) (ap model_of kind_is) case_nets i q reply r (ap nets.own_reply is) reads fits in
     let parts = fits_parts own.0 r own.2 in
     record { kind_is = kind_is; small = parts.0; formed = parts.1 }

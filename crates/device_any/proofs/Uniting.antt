@@ -1,23 +1,16 @@
 -- A device behind the seats that it had in a phase.
-use Rattle.std.proofs.Common.{◌≡◌, ℕ, suc, ◌+◌, Bool, true, false, cond, List, [], ◌∷◌, length, Option, Some, None, ap, sym, ◌∙◌, subst, refl, arith, slice_get}
+use Rattle.std.proofs.Common.{◌≡◌, ℕ, suc, ◌+◌, Bool, true, false, cond, List, [], ◌∷◌, length, Some, None, ap, sym, ◌∙◌, subst, refl, arith, slice_get}
 use Rattle.std.specs.Prelude.{map}
-use Rattle.std.specs.Option.{option_map, option_map_or}
 use Rattle.std.proofs.lemmas.List.{append-nil}
 use Rattle.contact.specs.declared.kind.DeviceKind.{DeviceKind}
-use Rattle.contact.specs.declared.kind.DeviceKind.TheVariants.{Beat as KindBeat, Down as KindDown, Disk as KindDisk, Net as KindNet, Kvp as KindKvp}
 use Rattle.device_kinds.specs.Logs.{Grows, log_by, served_by}
 use Rattle.script_lines.specs.Parts.{kind_of}
-use Rattle.script_lines.specs.declared.line.DeviceSpec.{DeviceSpec}
-use Rattle.script_lines.specs.declared.line.DeviceSpec.TheVariants.{Disk, Net}
 use Rattle.hist_lock.specs.Calls.{Closes}
 use Rattle.hist_lock.specs.History.{entries_of}
 use Rattle.hist_lock.specs.Seat.{Lock, Seat, AreNew, AreFrom, AreAll, IsSame}
 use Rattle.hist_lock.specs.declared.history.Entry.{Entry}
 use Rattle.hist_lock.proofs.Rows.{new_all}
-use Rattle.scsi_disk.specs.DiskModel.{DiskState}
-use Rattle.scsi_disk.specs.FiniteMap.{Kept, unwritten, stands_for}
-use Rattle.net_dev.specs.declared.station.Station.{Station}
-use Rattle.device_any.specs.Boxes.{AreSeatsBy, CanUniteBox, ComesBack, EachWith, GoesOn, IsKept, IsKeptBy, IsOpen, UnitesBox, UnitesBy, Working, beats, box_log, disks, downs, is_open, kind_in, nets, pairs, seats_in, spec_of}
+use Rattle.device_any.specs.Boxes.{subs_in, AreSeatsBy, CanUniteBox, ComesBack, EachWith, GoesOn, IsKept, IsKeptBy, IsOpen, UnitesBox, UnitesBy, Working, box_log, is_open, kind_in, seats_in, spec_of}
 use Rattle.device_any.specs.MachineBoxes.{CanUnite, is_shared, own_seats, past_in, state_in}
 use Rattle.device_any.specs.Seats.{IsSameSeat, served_at}
 use Rattle.device_any.specs.declared.device_box.DeviceBox.{DeviceBox}
@@ -26,7 +19,7 @@ use Rattle.device_any.specs.declared.device_seat.DeviceSeat.{DeviceSeat}
 use Rattle.device_any.specs.declared.machine_box.MachineBox.{MachineBox}
 use Rattle.device_any.specs.declared.machine_box.MachineBox.TheVariants.{Whole, Shared, Empty}
 use Rattle.device_any.proofs.ManySeats.{grows_all}
-use Rattle.device_any.proofs.SeatLaws.{same_beat, same_down, same_disk, same_net, same_kvp}
+use Rattle.device_any.proofs.SeatLaws.{IsSeating, Opened, boxed, can_is, kept_is, log_is, open_is, opened, opened_by, opened_disk, same_setup, same_spec, seating, seats_are, seats_for, setup_is, spec_is}
 
 -- seats of one lock, after their calls
 
@@ -69,15 +62,15 @@ module _ {S Q A : Type 0} where
 
 -- the machine of one kind, that is whole again behind its seats
 
-module _ {S Q A : Type 0} (w : Working S Q A) (same : (s t : Seat S Q A) → IsSameSeat (w.seat s) (w.seat t) → IsSame s t) (served : (s : Seat S Q A) → served_at (w.seat s) ≡ served_by w.calls s.calls) where
+module _ {S Q A : Type 0} (w : Working S Q A) (seats_by : IsSeating w) where
   unmap : (own seats : List (Seat S Q A)) → EachWith IsSameSeat (map w.seat own) (map w.seat seats) → EachWith IsSame own seats
   unmap [] [] each = tt
-  unmap (s ∷ own) (t ∷ seats) each = (same s t each.0, unmap own seats each.1)
+  unmap (s ∷ own) (t ∷ seats) each = (seats_by.same s t each.0, unmap own seats each.1)
   unmap _ _ each = absurd each
 
   served_map : (seats : List (Seat S Q A)) → map served_at (map w.seat seats) ≡ map (λ (s : Seat S Q A). served_by w.calls s.calls) seats
   served_map [] = refl
-  served_map (s ∷ seats) = ap (λ l. l ∷ map served_at (map w.seat seats)) (served s) ∙ ap (λ l. served_by w.calls s.calls ∷ l) (served_map seats)
+  served_map (s ∷ seats) = ap (λ l. l ∷ map served_at (map w.seat seats)) (seats_by.served s) ∙ ap (λ l. served_by w.calls s.calls ∷ l) (served_map seats)
 
   back_by : (state : S) (past : List (Entry S Q A)) (q : ℕ) (quotas : List ℕ) (given : List DeviceSeat) (seats mine : List (Seat S Q A)) → given ≡ map w.seat mine → AreNew (w.first state) past (q ∷ quotas) mine
       → EachWith IsSameSeat given (map w.seat seats) → Back (w.first state) past seats
@@ -140,29 +133,52 @@ whole_here : {S Q A : Type 0} (w : Working S Q A) (own : MachineBox S Q A) → I
 whole_here w (Whole state history) kept = (refl, refl)
 whole_here w _ kept = absurd kept
 
+-- by how its machine works
+kept_by : (box : DeviceBox) → IsKept box → IsKeptBy (opened box).w (opened box).own
+kept_by box = subst (λ X. X) (kept_is box)
+
 -- no seat of it stands here
 pub kept_here : (box : DeviceBox) → IsKept box → (kind_in box ≡ None) × (seats_in box ≡ [])
-kept_here (BeatBox own) kept = let here = whole_here beats own kept in (ap (λ b. cond b (Some KindBeat) None) here.0, ap (map beats.seat) here.1)
-kept_here (DownBox own) kept = let here = whole_here downs own kept in (ap (λ b. cond b (Some KindDown) None) here.0, ap (map downs.seat) here.1)
-kept_here (DiskBox subs own) kept = let here = whole_here disks own kept in (ap (λ b. cond b (Some KindDisk) None) here.0, ap (map disks.seat) here.1)
-kept_here (NetBox own) kept = let here = whole_here nets own kept in (ap (λ b. cond b (Some KindNet) None) here.0, ap (map nets.seat) here.1)
-kept_here (KvpBox own) kept = let here = whole_here pairs own kept in (ap (λ b. cond b (Some KindKvp) None) here.0, ap (map pairs.seat) here.1)
+kept_here box kept =
+    let here = whole_here (opened box).w (opened box).own (kept_by box kept) in
+    (ap (λ b. cond b (Some (kind_of (spec_of box))) None) (open_is box ∙ here.0), seats_are box ∙ ap (map (opened box).w.seat) here.1)
 
 pub can_kept : (box : DeviceBox) → IsKept box → CanUniteBox box
-can_kept (BeatBox own) kept = can_whole beats own kept
-can_kept (DownBox own) kept = can_whole downs own kept
-can_kept (DiskBox subs own) kept = can_whole disks own kept
-can_kept (NetBox own) kept = can_whole nets own kept
-can_kept (KvpBox own) kept = can_whole pairs own kept
+can_kept box kept = subst (λ X. X) (sym (can_is box)) (can_whole (opened box).w (opened box).own (kept_by box kept))
+
+-- a device of the same kind, with as many channels: its machine works as that of the other one
+record Also (z : Opened) (box : DeviceBox) : Type 1 where
+  pub own : MachineBox z.S z.Q z.A
+  pub is : opened box ≡ opened_by z.w z.box z.spec z.setup own
+
+also : (old held : DeviceBox) → kind_of (spec_of held) ≡ kind_of (spec_of old) → subs_in held ≡ subs_in old → Also (opened old) held
+also (BeatBox old) (BeatBox held) kinds same = record { own = held; is = refl }
+also (DownBox old) (DownBox held) kinds same = record { own = held; is = refl }
+also (DiskBox subs old) (DiskBox subs' held) kinds same = record { own = held; is = ap (λ n. opened_disk n held) same }
+also (NetBox old) (NetBox held) kinds same = record { own = held; is = refl }
+also (KvpBox old) (KvpBox held) kinds same = record { own = held; is = refl }
+also _ _ kinds same = absurd (cc (kinds))
+
+-- the same device, made whole
+record Later (z : Opened) (new : DeviceBox) : Type 1 where
+  pub own : MachineBox z.S z.Q z.A
+  pub is : opened new ≡ opened_by z.w z.box z.spec z.setup own
+  pub unites : UnitesBy z.w z.own own
+
+later : (old new : DeviceBox) → UnitesBox old new → Later (opened old) new
+later (BeatBox old) (BeatBox new) unites = record { own = new; is = refl; unites = unites }
+later (DownBox old) (DownBox new) unites = record { own = new; is = refl; unites = unites }
+later (DiskBox subs old) (DiskBox subs' new) unites = record { own = new; is = ap (λ n. opened_disk n new) unites.0; unites = unites.1 }
+later (NetBox old) (NetBox new) unites = record { own = new; is = refl; unites = unites }
+later (KvpBox old) (KvpBox new) unites = record { own = new; is = refl; unites = unites }
+later _ _ unites = absurd unites
 
 kept_stays : (old new : DeviceBox) → IsKept old → UnitesBox old new → (new ≡ old) × (seats_in old ≡ [])
-kept_stays (BeatBox own) (BeatBox new) kept unites = let stays = whole_stays beats own new kept unites in (ap BeatBox stays.0, ap (map beats.seat) stays.1)
-kept_stays (DownBox own) (DownBox new) kept unites = let stays = whole_stays downs own new kept unites in (ap DownBox stays.0, ap (map downs.seat) stays.1)
-kept_stays (DiskBox subs own) (DiskBox subs' new) kept unites =
-    let stays = whole_stays disks own new kept unites.1 in (ap (λ n. DiskBox n new) unites.0 ∙ ap (DiskBox subs) stays.0, ap (map disks.seat) stays.1)
-kept_stays (NetBox own) (NetBox new) kept unites = let stays = whole_stays nets own new kept unites in (ap NetBox stays.0, ap (map nets.seat) stays.1)
-kept_stays (KvpBox own) (KvpBox new) kept unites = let stays = whole_stays pairs own new kept unites in (ap KvpBox stays.0, ap (map pairs.seat) stays.1)
-kept_stays _ _ kept unites = absurd unites
+kept_stays old new kept unites =
+    let z = opened old in
+    let l = later old new unites in
+    let stays = whole_stays z.w z.own l.own (kept_by old kept) l.unites in
+    (sym (boxed new) ∙ (ap (λ y. y.box y.own) l.is ∙ (ap z.box stays.0 ∙ boxed old)), seats_are old ∙ ap (map z.w.seat) stays.1)
 
 -- a device that its channels have
 
@@ -176,49 +192,37 @@ kind_opened box kind is = (if_open (is_open box) (kind_of (spec_of box)) kind is
 pub is_opened : (box : DeviceBox) (kind : DeviceKind) → kind_in box ≡ Some kind → IsOpen box
 is_opened box kind is = (if_open (is_open box) (kind_of (spec_of box)) kind is).1
 
+-- the seats that came back, by how the machine works
+came_back : (given : List DeviceSeat) (held : DeviceBox) (y : Opened) → opened held ≡ y → EachWith IsSameSeat given (seats_in held) → EachWith IsSameSeat given (map y.w.seat (own_seats y.own))
+came_back given held y is each = subst (λ x. EachWith IsSameSeat given (map x.w.seat (own_seats x.own))) is (subst (EachWith IsSameSeat given) (seats_are held) each)
+
 -- a device whose seats all came back can be made whole
 pub can_unite : (old : DeviceBox) (quotas : List ℕ) (given : List DeviceSeat) (held : DeviceBox) → ComesBack old quotas given held → CanUniteBox held
 can_unite old [] given held back = subst CanUniteBox (sym back.0) (can_kept old back.1)
-can_unite (BeatBox old) (q ∷ quotas) given (BeatBox held) back = can_by beats same_beat (λ s. refl) q quotas given old held back.2 back.3
-can_unite (DownBox old) (q ∷ quotas) given (DownBox held) back = can_by downs same_down (λ s. refl) q quotas given old held back.2 back.3
-can_unite (DiskBox subs old) (q ∷ quotas) given (DiskBox subs' held) back = can_by disks same_disk (λ s. refl) q quotas given old held back.2 back.3
-can_unite (NetBox old) (q ∷ quotas) given (NetBox held) back = can_by nets same_net (λ s. refl) q quotas given old held back.2 back.3
-can_unite (KvpBox old) (q ∷ quotas) given (KvpBox held) back = can_by pairs same_kvp (λ s. refl) q quotas given old held back.2 back.3
-can_unite _ (q ∷ quotas) given _ back = absurd (cc (back.0))
+can_unite old (q ∷ quotas) given held back =
+    let z = opened old in
+    let a = also old held back.0 back.1 in
+    let new = subst (λ X. X) (seats_for old (q ∷ quotas) given) back.2 in
+    subst (λ X. X) (sym (can_is held)) (subst (λ y. CanUnite y.own) (sym a.is) (can_by z.w (seating old) q quotas given z.own a.own new (came_back given held _ a.is back.3)))
 
--- and its history went on: no request changes how many blocks a disk has and which of its places are bad, nor an adapter's addresses
+-- and its history went on
 pub goes_on : (old : DeviceBox) (quotas : List ℕ) (given : List DeviceSeat) (held new : DeviceBox) → ComesBack old quotas given held → UnitesBox held new → GoesOn old new (map served_at (seats_in held))
 goes_on old [] given held new back unites =
     let stays = kept_stays old new back.1 (subst (λ d. UnitesBox d new) back.0 unites) in
     subst (λ d. GoesOn old d (map served_at (seats_in held))) (sym stays.0)
     (subst (λ l. GoesOn old old (map served_at l)) (sym (ap seats_in back.0 ∙ stays.1)) (record { grows = record { more = []; after_is = sym (append-nil (box_log old)); seats = tt; all = refl }; spec = refl; setup = refl; kept = back.1 }))
-goes_on (BeatBox old) (q ∷ quotas) given (BeatBox held) (BeatBox new) back unites =
-    let again = again_by beats same_beat (λ s. refl) q quotas given old held new back.2 back.3 unites in
-    record { grows = again.grows; spec = refl; setup = refl; kept = again.kept }
-goes_on (DownBox old) (q ∷ quotas) given (DownBox held) (DownBox new) back unites =
-    let again = again_by downs same_down (λ s. refl) q quotas given old held new back.2 back.3 unites in
-    record { grows = again.grows; spec = refl; setup = refl; kept = again.kept }
-goes_on (DiskBox subs old) (q ∷ quotas) given (DiskBox held_subs held) (DiskBox new_subs new) back unites =
-    let again = again_by disks same_disk (λ s. refl) q quotas given old held new back.2 back.3 unites.1 in
-    let same : new_subs ≡ subs = unites.0 ∙ back.1 in
-    let blocks : Option Kept → ℕ = λ o. option_map_or (λ (k : Kept). k.blocks) o 0 in
-    let setup : Option Kept → Option DiskState = option_map (λ (k : Kept). stands_for (unwritten k)) in
+goes_on old (q ∷ quotas) given held new back unites =
+    let z = opened old in
+    let a = also old held back.0 back.1 in
+    let l = subst (λ y. Later y new) a.is (later held new unites) in
+    let seats = subst (λ X. X) (seats_for old (q ∷ quotas) given) back.2 in
+    let again = again_by z.w (seating old) q quotas given z.own a.own l.own seats (came_back given held _ a.is back.3) l.unites in
+    let before : box_log old ≡ log_by z.w.calls (past_in z.own) = log_is old in
+    let after : box_log new ≡ log_by z.w.calls (past_in l.own) = log_is new ∙ ap (λ y. log_by y.w.calls (past_in y.own)) l.is in
+    let came : seats_in held ≡ map z.w.seat (own_seats a.own) = seats_are held ∙ ap (λ y. map y.w.seat (own_seats y.own)) a.is in
     record {
-      grows = again.grows;
-      spec = ap (λ n. Disk (blocks (state_in new)) n) same ∙ ap (λ n. Disk n subs) (ap blocks again.is_in ∙ (ap (λ (k : Kept). k.blocks) again.setup ∙ sym (ap blocks again.was_in)));
-      setup = ap setup again.is_in ∙ (ap (λ k. Some (stands_for k)) again.setup ∙ sym (ap setup again.was_in));
-      kept = again.kept;
+      grows = rw (before, after, came) again.grows;
+      spec = spec_is new ∙ (ap (λ y. y.spec (state_in y.own)) l.is ∙ (ap z.spec again.is_in ∙ (same_spec old again.is again.was again.setup ∙ (ap z.spec (sym again.was_in) ∙ sym (spec_is old)))));
+      setup = setup_is new ∙ (ap (λ y. y.setup (state_in y.own)) l.is ∙ (ap z.setup again.is_in ∙ (same_setup old again.is again.was again.setup ∙ (ap z.setup (sym again.was_in) ∙ sym (setup_is old)))));
+      kept = subst (λ X. X) (sym (kept_is new)) (subst (λ y. IsKeptBy y.w y.own) (sym l.is) again.kept);
     }
-goes_on (NetBox old) (q ∷ quotas) given (NetBox held) (NetBox new) back unites =
-    let again = again_by nets same_net (λ s. refl) q quotas given old held new back.2 back.3 unites in
-    let spec : Option Station → DeviceSpec = λ o. Net (option_map_or (λ (s : Station). s.mac) o []) (option_map_or (λ (s : Station). s.station) o []) in
-    record { grows = again.grows; spec = ap spec again.is_in ∙ (ap (λ (s : Station). Net s.mac s.station) again.setup ∙ sym (ap spec again.was_in)); setup = refl; kept = again.kept }
-goes_on (KvpBox old) (q ∷ quotas) given (KvpBox held) (KvpBox new) back unites =
-    let again = again_by pairs same_kvp (λ s. refl) q quotas given old held new back.2 back.3 unites in
-    record { grows = again.grows; spec = refl; setup = refl; kept = again.kept }
-goes_on (BeatBox old) (q ∷ quotas) given (BeatBox held) _ back unites = absurd unites
-goes_on (DownBox old) (q ∷ quotas) given (DownBox held) _ back unites = absurd unites
-goes_on (DiskBox subs old) (q ∷ quotas) given (DiskBox held_subs held) _ back unites = absurd unites
-goes_on (NetBox old) (q ∷ quotas) given (NetBox held) _ back unites = absurd unites
-goes_on (KvpBox old) (q ∷ quotas) given (KvpBox held) _ back unites = absurd unites
-goes_on _ (q ∷ quotas) given _ new back unites = absurd (cc (back.0))

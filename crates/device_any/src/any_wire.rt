@@ -3,7 +3,7 @@ ghost use Rattle.std.specs.Prelude.{◌≡◌};
 ghost use Rattle.channel_model.specs.Lift.{or_else};
 ghost use Rattle.disk_format.specs.declared.disk_step.DiskStep.TheVariants.{Begin as BeginStep};
 ghost use Rattle.net_format.specs.declared.net_step.NetStep.TheVariants.{Init as InitStep};
-ghost use Rattle.device_kinds.specs.Kinds.{disk_step as disk_of, net_step as net_of};
+ghost use Rattle.device_kinds.specs.Kinds.{disks, nets};
 
 use crate::{DeviceAnswer, DeviceHead};
 use bus_script::{Ask, Reply};
@@ -48,47 +48,76 @@ impl DeviceWire {
     }
 }
 
+// What comes of a kind's own wire, as it is, or as a case of what comes of those of all kinds. An arm that gives a reply returns by itself, so that this is not moved
+// through the value of the `match`.
+macro_rules! on_wire {
+    (same, $case:ident, $own:expr, $wire:ident, $call:expr) => {{
+        let $wire = $own;
+        $call
+    }};
+    ((Some $all:ident), $case:ident, $own:expr, $wire:ident, $call:expr) => {{
+        let $wire = $own;
+        match $call {
+            Some(own) => Some($all::$case(own)),
+            None => None,
+        }
+    }};
+    (reply, Net, $own:expr, $wire:ident, $call:expr) => {{
+        let $wire = $own;
+        let NetReply { status, back } = $call;
+        return Reply::Net { status, back };
+    }};
+    (reply, $case:ident, $own:expr, $wire:ident, $call:expr) => {{
+        let $wire = $own;
+        return Reply::$case($call);
+    }};
+    ($all:ident, $case:ident, $own:expr, $wire:ident, $call:expr) => {{
+        let $wire = $own;
+        $all::$case($call)
+    }};
+}
+
 // What is done with the wire of a kind, whatever kind it is.
 macro_rules! own_wire {
-    ($kind:expr, $wire:ident => $call:expr) => {
+    ($kind:expr, $how:tt, $wire:ident => $call:expr) => {
         match $kind {
-            DeviceKind::Beat | DeviceKind::Down => {
-                let $wire = IcWire::of($kind);
-                $call
-            }
-            DeviceKind::Disk => {
-                let $wire = DiskWire;
-                $call
-            }
-            DeviceKind::Net => {
-                let $wire = NetWire;
-                $call
-            }
-            DeviceKind::Kvp => {
-                let $wire = KvpWire;
-                $call
-            }
+            DeviceKind::Beat | DeviceKind::Down => on_wire!($how, Ic, IcWire::of($kind), $wire, $call),
+            DeviceKind::Disk => on_wire!($how, Disk, DiskWire, $wire, $call),
+            DeviceKind::Net => on_wire!($how, Net, NetWire, $wire, $call),
+            DeviceKind::Kvp => on_wire!($how, Kvp, KvpWire, $wire, $call),
+        }
+    };
+}
+
+// What is done with the wire of the kind that a value is of, and with what that kind has in it.
+macro_rules! own_case {
+    ($kind:expr, $all:ident, $value:expr, $how:tt, $wire:ident, $own:ident => $call:expr) => {
+        match $value {
+            $all::Ic($own) => on_wire!($how, Ic, IcWire::of($kind), $wire, $call),
+            $all::Disk($own) => on_wire!($how, Disk, DiskWire, $wire, $call),
+            $all::Net($own) => on_wire!($how, Net, NetWire, $wire, $call),
+            $all::Kvp($own) => on_wire!($how, Kvp, KvpWire, $wire, $call),
         }
     };
 }
 
 /// The step of a disk's start-up. That of another kind counts as the first one.
 fn disk_step(step: &DeviceStep) -> DiskStep
-    ensures { result ≡ or_else BeginStep (disk_of step.now) }
+    ensures { result ≡ or_else BeginStep (disks.own_step step.now) }
 {
     match step {
         DeviceStep::Disk(step) => *step,
-        DeviceStep::Ic(_) | DeviceStep::Net(_) | DeviceStep::Kvp(_) => DiskStep::Begin,
+        _ => DiskStep::Begin,
     }
 }
 
 /// The step of a network's start-up. That of another kind counts as the first one.
 fn net_step(step: &DeviceStep) -> NetStep
-    ensures { result ≡ or_else InitStep (net_of step.now) }
+    ensures { result ≡ or_else InitStep (nets.own_step step.now) }
 {
     match step {
         DeviceStep::Net(step) => *step,
-        DeviceStep::Ic(_) | DeviceStep::Disk(_) | DeviceStep::Kvp(_) => NetStep::Init,
+        _ => NetStep::Init,
     }
 }
 
@@ -129,22 +158,15 @@ impl Wire for DeviceWire {
     ghost is_answer_head = { IsAnswerHead };
 
     fn besides(&self) -> bool {
-        own_wire!(self.kind, wire => wire.besides())
+        own_wire!(self.kind, same, wire => wire.besides())
     }
 
     fn count_steps(&self, subs: u32) -> u32 {
-        own_wire!(self.kind, wire => wire.count_steps(subs))
+        own_wire!(self.kind, same, wire => wire.count_steps(subs))
     }
 
     fn step(&self, subs: u32, lists: BufferLists, k: u32) -> DeviceStep {
-        match self.kind {
-            DeviceKind::Beat | DeviceKind::Down => {
-                DeviceStep::Ic(IcWire::of(self.kind).step(subs, lists, k))
-            }
-            DeviceKind::Disk => DeviceStep::Disk(DiskWire.step(subs, lists, k)),
-            DeviceKind::Net => DeviceStep::Net(NetWire.step(subs, lists, k)),
-            DeviceKind::Kvp => DeviceStep::Kvp(KvpWire.step(subs, lists, k)),
-        }
+        own_wire!(self.kind, DeviceStep, wire => wire.step(subs, lists, k))
     }
 
     fn is_answered(&self, step: &DeviceStep) -> bool {
@@ -170,66 +192,39 @@ impl Wire for DeviceWire {
     }
 
     fn write_request(&self, ask: &Ask, id: u64, out: &mut [u64], page: &mut [u64]) -> Written {
-        match ask {
-            Ask::Ic(ask) => IcWire::of(self.kind).write_request(ask, id, out, page),
-            Ask::Disk(request) => DiskWire.write_request(request, id, out, page),
-            Ask::Net(message) => NetWire.write_request(message, id, out, page),
-            Ask::Kvp(request) => KvpWire.write_request(request, id, out, page),
-        }
+        own_case!(self.kind, Ask, ask, same, wire, own => wire.write_request(own, id, out, page))
     }
 
     fn is_waiting(&self, packet: &[u64]) -> bool {
-        own_wire!(self.kind, wire => wire.is_waiting(packet))
+        own_wire!(self.kind, same, wire => wire.is_waiting(packet))
     }
 
     fn is_ack(&self, packet: &[u64]) -> bool {
-        own_wire!(self.kind, wire => wire.is_ack(packet))
+        own_wire!(self.kind, same, wire => wire.is_ack(packet))
     }
 
     fn is_answer(&self, packet: &[u64]) -> bool {
-        own_wire!(self.kind, wire => wire.is_answer(packet))
+        own_wire!(self.kind, same, wire => wire.is_answer(packet))
     }
 
     fn is_message(&self, packet: &[u64]) -> bool {
-        own_wire!(self.kind, wire => wire.is_message(packet))
+        own_wire!(self.kind, same, wire => wire.is_message(packet))
     }
 
     fn write_ack(&self, packet: &[u64], out: &mut [u64]) -> usize {
-        own_wire!(self.kind, wire => wire.write_ack(packet, out))
+        own_wire!(self.kind, same, wire => wire.write_ack(packet, out))
     }
 
     fn head(&self, packet: &[u64], words: &[u64]) -> Option<DeviceHead> {
-        match self.kind {
-            DeviceKind::Beat | DeviceKind::Down => match IcWire::of(self.kind).head(packet, words) {
-                Some(ask) => Some(DeviceHead::Ic(ask)),
-                None => None,
-            },
-            DeviceKind::Disk => match DiskWire.head(packet, words) {
-                Some(v) => Some(DeviceHead::Disk(v)),
-                None => None,
-            },
-            DeviceKind::Net => match NetWire.head(packet, words) {
-                Some(head) => Some(DeviceHead::Net(head)),
-                None => None,
-            },
-            DeviceKind::Kvp => match KvpWire.head(packet, words) {
-                Some(head) => Some(DeviceHead::Kvp(head)),
-                None => None,
-            },
-        }
+        own_wire!(self.kind, (Some DeviceHead), wire => wire.head(packet, words))
     }
 
     fn read(&self, packet: &[u64], words: &[u64], head: &DeviceHead) -> Ask {
-        match head {
-            DeviceHead::Ic(head) => Ask::Ic(IcWire::of(self.kind).read(packet, words, head)),
-            DeviceHead::Disk(head) => Ask::Disk(DiskWire.read(packet, words, head)),
-            DeviceHead::Net(head) => Ask::Net(NetWire.read(packet, words, head)),
-            DeviceHead::Kvp(head) => Ask::Kvp(KvpWire.read(packet, words, head)),
-        }
+        own_case!(self.kind, DeviceHead, head, Ask, wire, own => wire.read(packet, words, own))
     }
 
     fn has_fixed_message(&self, packet: &[u64], words: &[u64]) -> bool {
-        own_wire!(self.kind, wire => wire.has_fixed_message(packet, words))
+        own_wire!(self.kind, same, wire => wire.has_fixed_message(packet, words))
     }
 
     fn write_fixed_message(
@@ -240,18 +235,18 @@ impl Wire for DeviceWire {
         out: &mut [u64],
         page: &mut [u64],
     ) -> Written {
-        own_wire!(self.kind, wire => wire.write_fixed_message(packet, words, own, out, page))
+        own_wire!(self.kind, same, wire => wire.write_fixed_message(packet, words, own, out, page))
     }
 
     fn write_fixed(&self, packet: &[u64], words: &[u64], out: &mut [u64]) -> usize {
-        own_wire!(self.kind, wire => wire.write_fixed(packet, words, out))
+        own_wire!(self.kind, same, wire => wire.write_fixed(packet, words, out))
     }
 
     /// A network's alone has one.
     fn has_message(&self, _packet: &[u64], _words: &[u64], reply: &Reply) -> bool {
         match reply {
             Reply::Net { back, .. } => back.is_some(),
-            Reply::Ic(_) | Reply::Disk(_) | Reply::Kvp(_) => false,
+            _ => false,
         }
     }
 
@@ -266,7 +261,7 @@ impl Wire for DeviceWire {
     ) -> Written {
         match reply {
             Reply::Net { back, .. } => write_net_message(back, own, out, page),
-            Reply::Ic(_) | Reply::Disk(_) | Reply::Kvp(_) => Written::bare(0),
+            _ => Written::bare(0),
         }
     }
 
@@ -303,29 +298,9 @@ impl Wire for DeviceWire {
         packet: &[u64],
         words: &[u64],
     ) -> Option<DeviceAnswer> {
-        match self.kind {
-            DeviceKind::Beat | DeviceKind::Down => {
-                match IcWire::of(self.kind).answer_head(before, before_words, packet, words) {
-                    Some(answer) => Some(DeviceAnswer::Ic(answer)),
-                    None => None,
-                }
-            }
-            DeviceKind::Disk => match DiskWire.answer_head(before, before_words, packet, words) {
-                Some(answer) => Some(DeviceAnswer::Disk(answer)),
-                None => None,
-            },
-            DeviceKind::Net => match NetWire.answer_head(before, before_words, packet, words) {
-                Some(status) => Some(DeviceAnswer::Net(status)),
-                None => None,
-            },
-            DeviceKind::Kvp => match KvpWire.answer_head(before, before_words, packet, words) {
-                Some(head) => Some(DeviceAnswer::Kvp(head)),
-                None => None,
-            },
-        }
+        own_wire!(self.kind, (Some DeviceAnswer), wire => wire.answer_head(before, before_words, packet, words))
     }
 
-    // Each arm returns by itself, so that a reply is not moved through the value of the `match`.
     fn reply(
         &self,
         before: &[u64],
@@ -334,27 +309,6 @@ impl Wire for DeviceWire {
         words: &[u64],
         head: &DeviceAnswer,
     ) -> Reply {
-        match head {
-            DeviceAnswer::Ic(head) => {
-                let wire = IcWire::of(self.kind);
-                return Reply::Ic(wire.reply(before, before_words, packet, words, head));
-            }
-            DeviceAnswer::Disk(head) => {
-                return Reply::Disk(DiskWire.reply(before, before_words, packet, words, head));
-            }
-            DeviceAnswer::Net(head) => {
-                let NetReply { status, back } = NetWire.reply(
-                    before,
-                    before_words,
-                    packet,
-                    words,
-                    head,
-                );
-                return Reply::Net { status, back };
-            }
-            DeviceAnswer::Kvp(head) => {
-                return Reply::Kvp(KvpWire.reply(before, before_words, packet, words, head));
-            }
-        }
+        own_case!(self.kind, DeviceAnswer, head, reply, wire, own => wire.reply(before, before_words, packet, words, own))
     }
 }

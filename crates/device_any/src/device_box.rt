@@ -1,5 +1,5 @@
 //! A device between the phases of a script, and in one.
-ghost use Rattle.std.specs.Prelude.{◌≡◌, ◌+◌, ◌<◌, ◌≤◌, ◌^◌, ◌++◌, ◌∷◌, [], ℕ, List, All, length, sum, Some, IfOk, OnOk};
+ghost use Rattle.std.specs.Prelude.{◌≡◌, ◌+◌, ◌<◌, ◌^◌, ◌++◌, ◌∷◌, [], ℕ, List, All, length, sum, Some, IfOk, OnOk};
 ghost use Rattle.device_kinds.specs.Logs.{log_of, IsHistory};
 ghost use Rattle.script_lines.specs.Parts.{blocks_of, kind_of};
 ghost use Rattle.script_lines.specs.WellFormed.{IsDevice};
@@ -35,18 +35,34 @@ pub enum DeviceBox {
     Kvp(MachineBox<KvpMachine>),
 }
 
+// What comes of the machine of a device, as it is, as a case of what comes of those of all kinds, or with a seat of its kind.
+macro_rules! among {
+    (same, $case:ident, $value:expr) => {
+        $value
+    };
+    ((with $seat:ident), $case:ident, $value:expr) => {
+        match $seat {
+            DeviceSeat::$case($seat) => $value,
+            _ => unreachable!(),
+        }
+    };
+    ($all:ident, $case:ident, $value:expr) => {
+        $all::$case($value)
+    };
+}
+
 // What is done with the machine of a device, whatever its kind.
 macro_rules! each_box {
-    ($device:expr, $own:ident => $call:expr) => {
+    ($device:expr, $how:tt, $own:ident => $call:expr) => {
         match $device {
-            DeviceBox::Beat($own) => $call,
-            DeviceBox::Down($own) => $call,
+            DeviceBox::Beat($own) => among!($how, Beat, $call),
+            DeviceBox::Down($own) => among!($how, Down, $call),
             DeviceBox::Disk {
                 subs: _,
                 disk: $own,
-            } => $call,
-            DeviceBox::Net($own) => $call,
-            DeviceBox::Kvp($own) => $call,
+            } => among!($how, Disk, $call),
+            DeviceBox::Net($own) => among!($how, Net, $call),
+            DeviceBox::Kvp($own) => among!($how, Kvp, $call),
         }
     };
 }
@@ -69,10 +85,10 @@ impl DeviceBox {
                 alloc,
                 Station::make(mac, station),
             )?)),
-            DeviceSpec::Kvp => {
-                let machine = KvpMachine::make(alloc)?;
-                Ok(DeviceBox::Kvp(MachineBox::make(alloc, machine)?))
-            }
+            DeviceSpec::Kvp => Ok(DeviceBox::Kvp(MachineBox::make(
+                alloc,
+                KvpMachine::make(alloc)?,
+            )?)),
         }
     }
 
@@ -96,7 +112,7 @@ impl DeviceBox {
         ensures subs { OnOk result (subs_in self.new ≡ subs_in self.old) }
         ensures seats { OnOk result (AreSeatsFor self.old quotas.now (seats_in self.new)) }
     {
-        each_box!(self, own => own.share(alloc, quotas))
+        each_box!(self, same, own => own.share(alloc, quotas))
     }
 
     /// Takes the first seat.
@@ -106,13 +122,7 @@ impl DeviceBox {
         ensures kind { kind_in self.new ≡ kind_in self.old }
         ensures subs { subs_in self.new ≡ subs_in self.old }
     {
-        match self {
-            DeviceBox::Beat(own) => DeviceSeat::Beat(own.take_first()),
-            DeviceBox::Down(own) => DeviceSeat::Down(own.take_first()),
-            DeviceBox::Disk { subs: _, disk: own } => DeviceSeat::Disk(own.take_first()),
-            DeviceBox::Net(own) => DeviceSeat::Net(own.take_first()),
-            DeviceBox::Kvp(own) => DeviceSeat::Kvp(own.take_first()),
-        }
+        each_box!(self, DeviceSeat, own => own.take_first())
     }
 
     /// Puts a seat behind the others.
@@ -123,14 +133,7 @@ impl DeviceBox {
         ensures kind { OnOk result (kind_in self.new ≡ kind_in self.old) }
         ensures subs { OnOk result (subs_in self.new ≡ subs_in self.old) }
     {
-        match (self, seat) {
-            (DeviceBox::Beat(own), DeviceSeat::Beat(seat)) => own.give_back(seat),
-            (DeviceBox::Down(own), DeviceSeat::Down(seat)) => own.give_back(seat),
-            (DeviceBox::Disk { subs: _, disk: own }, DeviceSeat::Disk(seat)) => own.give_back(seat),
-            (DeviceBox::Net(own), DeviceSeat::Net(seat)) => own.give_back(seat),
-            (DeviceBox::Kvp(own), DeviceSeat::Kvp(seat)) => own.give_back(seat),
-            (_, _) => unreachable!(),
-        }
+        each_box!(self, (with seat), own => own.give_back(seat))
     }
 
     /// Closes the device's history, once its channels gave all seats back: the device is whole again. One whose channels weren't opened stays. It takes no
@@ -139,7 +142,7 @@ impl DeviceBox {
         requires { CanUniteBox self.old }
         ensures { UnitesBox self.old self.new }
     {
-        each_box!(self, own => own.unite())
+        each_box!(self, same, own => own.unite())
     }
 
     /// What the device served.
@@ -148,12 +151,6 @@ impl DeviceBox {
         ensures log { log_of result ≡ box_log self }
         ensures legal { (bad : List ℕ) → setup_of self ≡ setup_for (spec_of self) bad → IsHistory (spec_of self) bad result }
     {
-        match self {
-            DeviceBox::Beat(own) => DeviceHistory::Beat(own.into_history()),
-            DeviceBox::Down(own) => DeviceHistory::Down(own.into_history()),
-            DeviceBox::Disk { subs: _, disk: own } => DeviceHistory::Disk(own.into_history()),
-            DeviceBox::Net(own) => DeviceHistory::Net(own.into_history()),
-            DeviceBox::Kvp(own) => DeviceHistory::Kvp(own.into_history()),
-        }
+        each_box!(self, DeviceHistory, own => own.into_history())
     }
 }

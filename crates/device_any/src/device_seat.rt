@@ -1,7 +1,5 @@
 //! The seat of a device at its channel.
-ghost use Rattle.std.specs.Prelude.{◌≡◌, true, is_some};
-ghost use Rattle.script_lines.specs.declared.line.Ask.TheVariants.{Ic as AskedIc, Disk as AskedDisk, Net as AskedNet, Kvp as AskedKvp};
-ghost use Rattle.device_kinds.specs.Kinds.{ic_request, disk_request, net_request, kvp_request};
+ghost use Rattle.std.specs.Prelude.{◌≡◌};
 ghost use Rattle.device_any.specs.Seats.{kind_at};
 
 use crate::DeviceProtocol;
@@ -9,12 +7,11 @@ use bus_script::{Ask, Reply};
 use channel_protocol::Device;
 use contact::DeviceKind;
 use hist_lock::HistSeat;
-use kvp_ic::{Kvp, KvpMachine};
+use kvp_ic::KvpMachine;
 use net_dev::{NetReply, Station};
-use rndis_msg::Rndis;
-use scsi_disk::{Disk, DiskRequest};
+use scsi_disk::Disk;
 use std::sync::Wait;
-use util_ic::{BeatMachine, DownMachine, IcAsk};
+use util_ic::{BeatMachine, DownMachine};
 
 /// A place at a device's machine, by the kind of the device.
 #[derive(Drop)]
@@ -26,48 +23,15 @@ pub enum DeviceSeat {
     Kvp(HistSeat<KvpMachine>),
 }
 
-// The request of a service.
-fn ic_of(request: Ask) -> IcAsk
-    requires { is_some (ic_request request) ≡ true }
-    ensures { request ≡ AskedIc result }
-{
-    let Ask::Ic(ask) = request else {
-        unreachable!()
-    };
-    ask
-}
-
-// The request of a disk.
-fn disk_of(request: Ask) -> DiskRequest
-    requires { is_some (disk_request request) ≡ true }
-    ensures { request ≡ AskedDisk result }
-{
-    let Ask::Disk(command) = request else {
-        unreachable!()
-    };
-    command
-}
-
-// The message for an adapter.
-fn message_of(request: Ask) -> Rndis
-    requires { is_some (net_request request) ≡ true }
-    ensures { request ≡ AskedNet result }
-{
-    let Ask::Net(message) = request else {
-        unreachable!()
-    };
-    message
-}
-
-// The request of a key-value service.
-fn pair_of(request: Ask) -> Kvp
-    requires { is_some (kvp_request request) ≡ true }
-    ensures { request ≡ AskedKvp result }
-{
-    let Ask::Kvp(request) = request else {
-        unreachable!()
-    };
-    request
+// A call of a seat with the request of its kind, which is the case of this name. It returns by itself, so that a reply is not moved through the value of a `match`.
+macro_rules! serve {
+    ($seat:ident, $rt:expr, $request:expr, $case:ident) => {{
+        let Ask::$case(own) = $request else {
+            unreachable!()
+        };
+        let receipt = $seat.with($rt, own);
+        return (receipt.serial, Reply::$case(receipt.reply));
+    }};
 }
 
 impl DeviceSeat {
@@ -112,30 +76,20 @@ impl Device<DeviceProtocol> for DeviceSeat {
         }
     }
 
-    // Each arm returns by itself, so that a reply is not moved through the value of the `match`.
     fn call<R: Wait>(&mut self, rt: &R, _protocol: &DeviceProtocol, request: Ask) -> (u32, Reply) {
         match self {
-            DeviceSeat::Beat(seat) => {
-                let receipt = seat.with(rt, ic_of(request));
-                return (receipt.serial, Reply::Ic(receipt.reply));
-            }
-            DeviceSeat::Down(seat) => {
-                let receipt = seat.with(rt, ic_of(request));
-                return (receipt.serial, Reply::Ic(receipt.reply));
-            }
-            DeviceSeat::Disk(seat) => {
-                let receipt = seat.with(rt, disk_of(request));
-                return (receipt.serial, Reply::Disk(receipt.reply));
-            }
+            DeviceSeat::Beat(seat) => serve!(seat, rt, request, Ic),
+            DeviceSeat::Down(seat) => serve!(seat, rt, request, Ic),
+            DeviceSeat::Disk(seat) => serve!(seat, rt, request, Disk),
             DeviceSeat::Net(seat) => {
-                let receipt = seat.with(rt, Ok(message_of(request)));
+                let Ask::Net(message) = request else {
+                    unreachable!()
+                };
+                let receipt = seat.with(rt, Ok(message));
                 let NetReply { status, back } = receipt.reply;
                 return (receipt.serial, Reply::Net { status, back });
             }
-            DeviceSeat::Kvp(seat) => {
-                let receipt = seat.with(rt, pair_of(request));
-                return (receipt.serial, Reply::Kvp(receipt.reply));
-            }
+            DeviceSeat::Kvp(seat) => serve!(seat, rt, request, Kvp),
         }
     }
 }

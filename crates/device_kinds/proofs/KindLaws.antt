@@ -20,7 +20,6 @@ use Rattle.kvp_ic.specs.Messages.{CanBeAsked}
 use Rattle.script_lines.specs.Requests.{IsSent}
 use Rattle.script_lines.specs.declared.line.Ask.{Ask}
 use Rattle.script_lines.specs.declared.line.Ask.TheVariants.{Ic as AskIc, Disk as AskDisk, Net as AskNet, Kvp as AskKvp}
-use Rattle.bus_script.specs.declared.outcome.Reply.{Reply}
 use Rattle.bus_script.specs.declared.outcome.Reply.TheVariants.{Ic as ReplyIc, Disk as ReplyDisk, Net as ReplyNet, Kvp as ReplyKvp}
 use Rattle.channel_model.specs.Amounts.{HasNoMessages, MayHaveMessages}
 use Rattle.channel_model.specs.WireFormat.{Keeps}
@@ -30,7 +29,7 @@ use Rattle.device_wire.specs.declared.buffer_lists.BufferLists.{BufferLists}
 use Rattle.device_wire.specs.declared.want.Want.TheVariants.{Request}
 use Rattle.device_wire.specs.WireModels.{KeepsWire}
 use Rattle.device_wire.specs.Lifted.{IsCase}
-use Rattle.device_wire.proofs.LiftedLaws.{kept_lifted, agrees}
+use Rattle.device_wire.proofs.LiftedLaws.{kept_lifted}
 use Rattle.device_wire.proofs.WireLaws as wire
 use Rattle.ic_format.specs.Services.{ic_model, IsIcAsk}
 use Rattle.ic_format.proofs.ServiceLaws.{reply_fits}
@@ -38,62 +37,33 @@ use Rattle.ic_format.proofs.KindLaws.{service_kept}
 use Rattle.disk_format.specs.PageDisks.{disk_model, IsPageAsk}
 use Rattle.disk_format.proofs.DoneLaws.{sized_fits}
 use Rattle.disk_format.proofs.PageFormatLaws.{page_kept as disk_kept}
-use Rattle.net_format.specs.Nets.{can_ask, with_id, request_id_of, IsNetAsk}
+use Rattle.net_format.specs.Nets.{can_ask, IsNetAsk}
 use Rattle.net_format.specs.PageNets.{net_model}
 use Rattle.net_format.proofs.NetLaws.{formed_test, station_fits}
 use Rattle.net_format.proofs.NetPageLaws.{page_kept as net_kept}
 use Rattle.kvp_format.specs.Pairs.{kvp_model}
 use Rattle.kvp_format.proofs.PairLaws.{pair_kept, pair_reply_fits}
-use Rattle.device_kinds.specs.Kinds.{ic_request, disk_request, net_request, kvp_request, ic_reply, disk_reply, net_reply, kvp_reply, services, disks, nets, pairs, model_of, IsAskable}
+use Rattle.device_kinds.specs.Kinds.{services, disks, nets, pairs, model_of, IsAskable}
 use Rattle.device_kinds.specs.Formats.{asked_as, besides_on, encode_on, read_on, fits_on, format_of, has_answer_on, lends_on, startup}
 
 -- a request and a reply of a kind are those that are found in them
 
-service_whole : (ask : Ask) (q : IcAsk) → ic_request ask ≡ Some q → AskIc q ≡ ask
-service_whole (AskIc x) q h = let same : x ≡ q = cc in ap AskIc (sym same)
-service_whole _ q h = cc
-
-disk_whole : (ask : Ask) (q : DiskRequest) → disk_request ask ≡ Some q → AskDisk q ≡ ask
-disk_whole (AskDisk x) q h = let same : x ≡ q = cc in ap AskDisk (sym same)
-disk_whole _ q h = cc
-
-net_whole : (ask : Ask) (q : Rndis) → net_request ask ≡ Some q → AskNet q ≡ ask
-net_whole (AskNet x) q h = let same : x ≡ q = cc in ap AskNet (sym same)
-net_whole _ q h = cc
-
-kvp_whole : (ask : Ask) (q : Message) → kvp_request ask ≡ Some q → AskKvp q ≡ ask
-kvp_whole (AskKvp x) q h = let same : x ≡ q = cc in ap AskKvp (sym same)
-kvp_whole _ q h = cc
-
-service_replied : (reply : Reply) (r : IcAnswer) → ic_reply reply ≡ Some r → ReplyIc r ≡ reply
-service_replied (ReplyIc x) r h = let same : x ≡ r = cc in ap ReplyIc (sym same)
-service_replied _ r h = cc
-
-disk_replied : (reply : Reply) (r : DiskReply) → disk_reply reply ≡ Some r → ReplyDisk r ≡ reply
-disk_replied (ReplyDisk x) r h = let same : x ≡ r = cc in ap ReplyDisk (sym same)
-disk_replied _ r h = cc
-
-net_replied : (reply : Reply) (r : NetReply) → net_reply reply ≡ Some r → nets.reply r ≡ reply
-net_replied (ReplyNet status back) r h =
-    let own : NetReply = record { status = status; back = back } in
-    let same : own ≡ r = cc in ap nets.reply (sym same)
-net_replied _ r h = cc
-
-kvp_replied : (reply : Reply) (r : KvpReply) → kvp_reply reply ≡ Some r → ReplyKvp r ≡ reply
-kvp_replied (ReplyKvp x) r h = let same : x ≡ r = cc in ap ReplyKvp (sym same)
-kvp_replied _ r h = cc
-
 pub case_services : IsCase services
-case_services = record { step_found = λ s. refl; found = λ q. refl; asked = service_whole; replied = service_replied }
+case_services = record { step_found = λ s. refl; found = λ q. refl; asked = elim [ AskIc x ↦ λ q h. cc | _ ↦ λ q h. cc ]; replied = elim [ ReplyIc x ↦ λ r h. cc | _ ↦ λ r h. cc ] }
 
 pub case_disks : IsCase disks
-case_disks = record { step_found = λ s. refl; found = λ q. refl; asked = disk_whole; replied = disk_replied }
+case_disks = record { step_found = λ s. refl; found = λ q. refl; asked = elim [ AskDisk x ↦ λ q h. cc | _ ↦ λ q h. cc ]; replied = elim [ ReplyDisk x ↦ λ r h. cc | _ ↦ λ r h. cc ] }
 
 pub case_nets : IsCase nets
-case_nets = record { step_found = λ s. refl; found = λ q. refl; asked = net_whole; replied = net_replied }
+case_nets = record {
+  step_found = λ s. refl;
+  found = λ q. refl;
+  asked = elim [ AskNet x ↦ λ q h. cc | _ ↦ λ q h. cc ];
+  replied = elim [ ReplyNet status back ↦ λ r h. let same : r ≡ record { status = status; back = back } = cc in ap nets.reply same | _ ↦ λ r h. cc ];
+}
 
 pub case_pairs : IsCase pairs
-case_pairs = record { step_found = λ s. refl; found = λ q. refl; asked = kvp_whole; replied = kvp_replied }
+case_pairs = record { step_found = λ s. refl; found = λ q. refl; asked = elim [ AskKvp x ↦ λ q h. cc | _ ↦ λ q h. cc ]; replied = elim [ ReplyKvp x ↦ λ r h. cc | _ ↦ λ r h. cc ] }
 
 -- a row a kind
 
@@ -104,12 +74,11 @@ kept_by Disk = kept_lifted disks case_disks disk_model IsPageAsk disk_kept
 kept_by Net = kept_lifted nets case_nets net_model IsNetAsk net_kept
 kept_by Kvp = kept_lifted pairs case_pairs kvp_model CanBeAsked pair_kept
 
+-- a network's requests alone are asked under another id
 asked_so : (kind : DeviceKind) (id : ℕ) (ask : Ask) → IsAskable kind ask → (model_of kind).asked_as id ask ≡ asked_as id ask
-asked_so Beat id ask can = agrees services case_services (λ id q. q) asked_as (IsIcAsk Beat) (λ id q. refl) id ask can
-asked_so Down id ask can = agrees services case_services (λ id q. q) asked_as (IsIcAsk Down) (λ id q. refl) id ask can
-asked_so Disk id ask can = agrees disks case_disks (λ id q. q) asked_as IsPageAsk (λ id q. refl) id ask can
-asked_so Net id ask can = agrees nets case_nets (λ id m. with_id (request_id_of id) m) asked_as IsNetAsk (λ id q. refl) id ask can
-asked_so Kvp id ask can = agrees pairs case_pairs (λ id q. q) asked_as CanBeAsked (λ id q. refl) id ask can
+asked_so Net id (AskNet message) can = refl
+asked_so _ id (AskNet message) can = absurd can
+asked_so _ id _ can = refl
 
 -- what follows for all kinds
 

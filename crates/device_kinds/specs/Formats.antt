@@ -3,7 +3,7 @@ use Rattle.std.specs.Prelude.{ℕ, Bool, List, Option}
 use Rattle.page_kept.specs.declared.item.Item.{Item}
 use Rattle.contact.specs.declared.kind.DeviceKind.{DeviceKind}
 use Rattle.script_lines.specs.declared.line.Ask.{Ask}
-use Rattle.script_lines.specs.declared.line.Ask.TheVariants.{Ic as AskIc, Disk as AskDisk, Net as AskNet, Kvp as AskKvp}
+use Rattle.script_lines.specs.declared.line.Ask.TheVariants.{Net as AskNet}
 use Rattle.bus_script.specs.declared.outcome.Reply.{Reply}
 use Rattle.channel_model.specs.WireFormat.{WireFormat}
 use Rattle.device_wire.specs.declared.buffer_lists.BufferLists.{BufferLists}
@@ -25,10 +25,8 @@ besides_on kind = (model_of kind).besides
 
 -- what the device is asked where the script asks this under an id: a message for an adapter has the id of its packet
 abbrev pub asked_as : ℕ → Ask → Ask
-asked_as id (AskIc ask) = AskIc ask
-asked_as id (AskDisk request) = AskDisk request
 asked_as id (AskNet message) = AskNet (with_id (request_id_of id) message)
-asked_as id (AskKvp message) = AskKvp message
+asked_as id ask = ask
 
 -- the packet that asks, under an id, and what a packet asks of the device
 abbrev pub encode_on : DeviceKind → ℕ → DeviceWant → Item

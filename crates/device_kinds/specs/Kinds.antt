@@ -1,5 +1,5 @@
 -- What each kind of device is asked and replies, among what all kinds are.
-use Rattle.std.specs.Prelude.{Option, Some, None}
+use Rattle.std.specs.Prelude.{Some, None}
 use Rattle.contact.specs.declared.kind.DeviceKind.{DeviceKind}
 use Rattle.contact.specs.declared.kind.DeviceKind.TheVariants.{Beat, Down, Disk, Net, Kvp}
 use Rattle.util_ic.specs.declared.ic.IcAsk.{IcAsk}
@@ -37,103 +37,52 @@ use Rattle.kvp_format.specs.Pairs.{kvp_model}
 use Rattle.device_kinds.specs.declared.device_step.DeviceStep.{DeviceStep}
 use Rattle.device_kinds.specs.declared.device_step.DeviceStep.TheVariants.{Ic as StepIc, Disk as StepDisk, Net as StepNet, Kvp as StepKvp}
 
--- the step of a service's start-up, of a disk's, of a network's, or of a key-value service's
-abbrev pub ic_step : DeviceStep → Option IcStep
-ic_step (StepIc s) = Some s
-ic_step _ = None
-
-abbrev pub disk_step : DeviceStep → Option DiskStep
-disk_step (StepDisk s) = Some s
-disk_step _ = None
-
-abbrev pub net_step : DeviceStep → Option NetStep
-net_step (StepNet s) = Some s
-net_step _ = None
-
-abbrev pub kvp_step : DeviceStep → Option KvpStep
-kvp_step (StepKvp s) = Some s
-kvp_step _ = None
-
--- its request
-abbrev pub ic_request : Ask → Option IcAsk
-ic_request (AskIc ask) = Some ask
-ic_request _ = None
-
-abbrev pub disk_request : Ask → Option DiskRequest
-disk_request (AskDisk q) = Some q
-disk_request _ = None
-
-abbrev pub net_request : Ask → Option Rndis
-net_request (AskNet message) = Some message
-net_request _ = None
-
-abbrev pub kvp_request : Ask → Option Message
-kvp_request (AskKvp m) = Some m
-kvp_request _ = None
-
--- its reply
-abbrev pub ic_reply : Reply → Option IcAnswer
-ic_reply (ReplyIc r) = Some r
-ic_reply _ = None
-
-abbrev pub disk_reply : Reply → Option DiskReply
-disk_reply (ReplyDisk r) = Some r
-disk_reply _ = None
-
-abbrev pub net_reply : Reply → Option NetReply
-net_reply (ReplyNet status back) = Some (record { status = status; back = back })
-net_reply _ = None
-
-abbrev pub kvp_reply : Reply → Option KvpReply
-kvp_reply (ReplyKvp r) = Some r
-kvp_reply _ = None
-
 -- services, disks, networks, and key-value services among all kinds
 abbrev pub services : Case IcStep IcAsk IcAnswer DeviceStep Ask Reply
 services = record {
   step = StepIc;
-  own_step = ic_step;
+  own_step = elim [ StepIc s ↦ Some s | _ ↦ None ];
   first = Negotiate;
   request = AskIc;
-  own_request = ic_request;
+  own_request = elim [ AskIc ask ↦ Some ask | _ ↦ None ];
   reply = ReplyIc;
-  own_reply = ic_reply;
+  own_reply = elim [ ReplyIc r ↦ Some r | _ ↦ None ];
   other = record { status = 0; seq = 0 };
 }
 
 abbrev pub disks : Case DiskStep DiskRequest DiskReply DeviceStep Ask Reply
 disks = record {
   step = StepDisk;
-  own_step = disk_step;
+  own_step = elim [ StepDisk s ↦ Some s | _ ↦ None ];
   first = Begin;
   request = AskDisk;
-  own_request = disk_request;
+  own_request = elim [ AskDisk q ↦ Some q | _ ↦ None ];
   reply = ReplyDisk;
-  own_reply = disk_reply;
+  own_reply = elim [ ReplyDisk r ↦ Some r | _ ↦ None ];
   other = Check 0 0 0;
 }
 
 abbrev pub nets : Case NetStep Rndis NetReply DeviceStep Ask Reply
 nets = record {
   step = StepNet;
-  own_step = net_step;
+  own_step = elim [ StepNet s ↦ Some s | _ ↦ None ];
   first = Init;
   request = AskNet;
-  own_request = net_request;
+  own_request = elim [ AskNet message ↦ Some message | _ ↦ None ];
   reply = λ r. ReplyNet r.status r.back;
-  own_reply = net_reply;
+  own_reply = elim [ ReplyNet status back ↦ Some (record { status = status; back = back }) | _ ↦ None ];
   other = not_served;
 }
 
 abbrev pub pairs : Case KvpStep Message KvpReply DeviceStep Ask Reply
 pairs = record {
   step = StepKvp;
-  own_step = kvp_step;
+  own_step = elim [ StepKvp s ↦ Some s | _ ↦ None ];
   first = PairNegotiate;
   request = AskKvp;
-  own_request = kvp_request;
+  own_request = elim [ AskKvp m ↦ Some m | _ ↦ None ];
   reply = ReplyKvp;
-  own_reply = kvp_reply;
+  own_reply = elim [ ReplyKvp r ↦ Some r | _ ↦ None ];
   other = no_pool;
 }
 

@@ -1,17 +1,19 @@
-use Rattle.device_any.proofs.SeatLaws.{beat_fits, down_fits, disk_fits_on, net_fits_on, kvp_fits_on}
+use Rattle.device_kinds.proofs.KindLaws.{beat_fits, down_fits, disk_reply_fits, net_reply_fits}
+use Rattle.kvp_format.proofs.PairLaws.{pair_reply_fits}
+use Rattle.device_any.proofs.SeatLaws.{fits_at}
 use Rattle.device_any.proofs.device_seat.DeviceSeatDeviceDeviceProtocol.call.Goals as goal
 
 pub returns-in-Beat-clause-fits : goal.returns-in-Beat-clause-fits
-returns-in-Beat-clause-fits g c = beat_fits c.args.self.now c.args._protocol.now.kind c.args.request c.in-Beat.seat c.ic_of.result c.with-receipt.result.reply c.in-Beat.is c.requires.serves c.ic_of.ensures c.with-receipt.ensures.fits
+returns-in-Beat-clause-fits g c = fits_at _ c.in-Beat.is c.requires.serves c.in-Ic.is (beat_fits c.in-Ic.own c.with-receipt.result.reply c.with-receipt.ensures.fits)
 
 pub returns-in-Down-clause-fits : goal.returns-in-Down-clause-fits
-returns-in-Down-clause-fits g c = down_fits c.args.self.now c.args._protocol.now.kind c.args.request c.in-Down.seat c.ic_of-in-Down.result c.with-receipt-in-Down.result.reply c.in-Down.is c.requires.serves c.ic_of-in-Down.ensures c.with-receipt-in-Down.ensures.fits
+returns-in-Down-clause-fits g c = fits_at _ c.in-Down.is c.requires.serves c.in-Ic-request.is (down_fits c.in-Ic-request.own c.with-receipt-in-Down.result.reply c.with-receipt-in-Down.ensures.fits)
 
 pub returns-in-Disk-clause-fits : goal.returns-in-Disk-clause-fits
-returns-in-Disk-clause-fits g c = disk_fits_on c.args.self.now c.args._protocol.now.kind c.args.request c.in-Disk.seat c.disk_of.result c.with-receipt-in-Disk.result.reply c.in-Disk.is c.requires.serves c.disk_of.ensures c.with-receipt-in-Disk.ensures.fits
+returns-in-Disk-clause-fits g c = fits_at _ c.in-Disk.is c.requires.serves c.in-Disk-request.is (disk_reply_fits c.in-Disk-request.own c.with-receipt-in-Disk.result.reply c.with-receipt-in-Disk.ensures.fits)
 
 pub returns-in-Net-clause-fits : goal.returns-in-Net-clause-fits
-returns-in-Net-clause-fits g c = net_fits_on c.args.self.now c.args._protocol.now.kind c.args.request c.in-Net.seat c.message_of.result c.with-receipt-in-Net.result.reply c.in-Net.is c.requires.serves c.message_of.ensures c.with-receipt-in-Net.ensures.fits
+returns-in-Net-clause-fits g c = fits_at _ c.in-Net.is c.requires.serves c.in-Net-request.is (net_reply_fits c.in-Net-request.message c.with-receipt-in-Net.result.reply c.with-receipt-in-Net.ensures.fits)
 
 pub returns-in-Kvp-clause-fits : goal.returns-in-Kvp-clause-fits
-returns-in-Kvp-clause-fits g c = kvp_fits_on c.args.self.now c.args._protocol.now.kind c.args.request c.in-Kvp.seat c.pair_of.result c.with-receipt-in-Kvp.result.reply c.in-Kvp.is c.requires.serves c.pair_of.ensures c.with-receipt-in-Kvp.ensures.fits
+returns-in-Kvp-clause-fits g c = fits_at _ c.in-Kvp.is c.requires.serves c.in-Kvp-request.is (pair_reply_fits c.in-Kvp-request.own c.with-receipt-in-Kvp.result.reply c.with-receipt-in-Kvp.ensures.fits)
