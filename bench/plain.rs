@@ -1,9 +1,9 @@
-//! Times of the ring that was written by hand, with the same words as bench/ends.c: `turns`, `window`, `calls` or `bad`; `ordered` or `fenced`; of a window `spins`, `sleeps` or `parks`; then how many
+//! Times of the ring that was written by hand, with the same words as bench/ends.c: `turns`, `window`, `calls` or `bad`; `ordered`, `keeping` or `fenced`; of a window `spins`, `sleeps` or `parks`; then how many
 //! packets or calls a round has, how many rounds, the bytes of a packet, the window. Its figures are picoseconds, and nanoseconds of single requests.
 
 mod ring;
 
-use ring::{ends, End, Fenced, Order, Ordered, Sent, Took};
+use ring::{ends, End, Fenced, Keeping, Order, Ordered, Sent, Took};
 use std::env;
 use std::hint;
 use std::thread;
@@ -32,6 +32,8 @@ fn a_call(since: Instant, count: u64) -> u128 {
 
 fn turns<O: Order>(p: &[u64], count: u64) -> u128 {
     let (mut g, mut h) = ends::<O>(CELLS);
+    g.reserve(count as usize, p.len());
+    h.reserve(count as usize, p.len());
     let start = Instant::now();
     for _ in 0..count {
         assert!(g.send(p) == Sent::Quiet && h.take() == Took::Quiet);
@@ -211,6 +213,8 @@ fn main() {
     let part = words.first().expect("what is timed");
     if has("fenced") {
         run::<Fenced>(part, how, &numbers);
+    } else if has("keeping") {
+        run::<Keeping>(part, how, &numbers);
     } else {
         run::<Ordered>(part, how, &numbers);
     }

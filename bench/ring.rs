@@ -1,6 +1,6 @@
-//! A ring written by hand, to compare times with: the words of a channel as atomic words, and an end that makes the library's steps on them, one a word. There is no proof, and no
-//! packet is kept but the last one. It comes in two orders of memory: each step sequentially consistent; and what one would write, relaxed words between an acquire and a
-//! release, with a full fence where an end stores a word by which its peer decides, and then loads one by which it decides itself.
+//! A ring written by hand, to compare times with: the words of a channel as atomic words, and an end that makes the library's steps on them, one a word. There is no proof. It comes
+//! in two orders of memory: each step sequentially consistent; and what one would write, relaxed words between an acquire and a release, with a full fence where an end stores a
+//! word by which its peer decides, and then loads one by which it decides itself. No packet is kept but the last one; or, in the first order, each one that was sent or got.
 
 use std::marker::PhantomData;
 use std::sync::atomic::Ordering::{Acquire, Relaxed, Release, SeqCst};
@@ -8,8 +8,10 @@ use std::sync::atomic::{fence, AtomicBool, AtomicU64};
 use std::sync::{Arc, OnceLock};
 use std::thread::{self, Thread};
 
-/// The order of an end's steps.
+/// The order of an end's steps, and whether it keeps its packets.
 pub trait Order: Send + 'static {
+    const KEEPS: bool = false;
+
     fn load_index(word: &AtomicU64) -> u64;
     fn store_index(word: &AtomicU64, value: u64);
     fn load_cell(word: &AtomicU64) -> u64;
@@ -20,6 +22,27 @@ pub trait Order: Send + 'static {
 pub struct Ordered;
 
 impl Order for Ordered {
+    fn load_index(word: &AtomicU64) -> u64 {
+        word.load(SeqCst)
+    }
+    fn store_index(word: &AtomicU64, value: u64) {
+        word.store(value, SeqCst)
+    }
+    fn load_cell(word: &AtomicU64) -> u64 {
+        word.load(SeqCst)
+    }
+    fn store_cell(word: &AtomicU64, value: u64) {
+        word.store(value, SeqCst)
+    }
+    fn full_fence() {}
+}
+
+/// As `Ordered`, and each packet is kept.
+pub struct Keeping;
+
+impl Order for Keeping {
+    const KEEPS: bool = true;
+
     fn load_index(word: &AtomicU64) -> u64 {
         word.load(SeqCst)
     }
@@ -110,6 +133,28 @@ struct Channel {
     signals: [Signal; 2],
 }
 
+/// Packets: the words of all of them, and where each one ends.
+#[derive(Default)]
+struct Packets {
+    words: Vec<u64>,
+    ends: Vec<usize>,
+}
+
+impl Packets {
+    /// Room for so many packets of so many words, in memory that was touched.
+    fn reserve(&mut self, packets: usize, words: usize) {
+        self.words.resize(packets * words, 1);
+        self.words.clear();
+        self.ends.resize(packets, 1);
+        self.ends.clear();
+    }
+
+    fn push(&mut self, packet: &[u64]) {
+        self.words.extend_from_slice(packet);
+        self.ends.push(self.words.len());
+    }
+}
+
 /// How a send went.
 #[derive(Clone, Copy, PartialEq)]
 pub enum Sent {
@@ -136,6 +181,8 @@ pub struct End<O> {
     write: u64,
     read: u64,
     packet: Vec<u64>,
+    sent: Packets,
+    got: Packets,
     order: PhantomData<O>,
 }
 
@@ -152,6 +199,8 @@ pub fn ends<O: Order>(cells: usize) -> (End<O>, End<O>) {
         write: 0,
         read: 0,
         packet: vec![0; cells],
+        sent: Packets::default(),
+        got: Packets::default(),
         order: PhantomData,
     };
     (end(0), end(1))
@@ -165,6 +214,14 @@ impl<O: Order> End<O> {
     /// The words of the packet that was taken last.
     pub fn packet(&self) -> &[u64] {
         &self.packet
+    }
+
+    /// Makes room for so many packets of so many words, sent and got, where they are kept.
+    pub fn reserve(&mut self, packets: usize, words: usize) {
+        if O::KEEPS {
+            self.sent.reserve(packets, words);
+            self.got.reserve(packets, words);
+        }
     }
 
     /// Sends a packet.
@@ -190,6 +247,9 @@ impl<O: Order> End<O> {
         self.write = 8 * at as u64;
         O::store_index(&ring.write, self.write);
         O::full_fence();
+        if O::KEEPS {
+            self.sent.push(packet);
+        }
         if O::load_index(&ring.mask) == 0 && O::load_index(&ring.read) == before {
             self.channel.signals[1 - self.side].raise();
             return Sent::Raised;
@@ -221,6 +281,9 @@ impl<O: Order> End<O> {
             at = if at + 1 == ring.cells.len() { 0 } else { at + 1 };
         }
         at = if at + 1 == ring.cells.len() { 0 } else { at + 1 };
+        if O::KEEPS {
+            self.got.push(&self.packet[..len]);
+        }
         let start = self.read;
         self.read = 8 * at as u64;
         O::store_index(&ring.read, self.read);
