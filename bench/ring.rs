@@ -8,20 +8,10 @@ use std::sync::atomic::{fence, AtomicBool, AtomicU64};
 use std::sync::{Arc, OnceLock};
 use std::thread::{self, Thread};
 
-/// The order of an end's steps, and whether it keeps its packets.
+/// The order of an end's steps, which is sequentially consistent where nothing else is said, and whether it keeps its packets.
 pub trait Order: Send + 'static {
     const KEEPS: bool = false;
 
-    fn load_index(word: &AtomicU64) -> u64;
-    fn store_index(word: &AtomicU64, value: u64);
-    fn load_cell(word: &AtomicU64) -> u64;
-    fn store_cell(word: &AtomicU64, value: u64);
-    fn full_fence();
-}
-
-pub struct Ordered;
-
-impl Order for Ordered {
     fn load_index(word: &AtomicU64) -> u64 {
         word.load(SeqCst)
     }
@@ -36,26 +26,16 @@ impl Order for Ordered {
     }
     fn full_fence() {}
 }
+
+pub struct Ordered;
+
+impl Order for Ordered {}
 
 /// As `Ordered`, and each packet is kept.
 pub struct Keeping;
 
 impl Order for Keeping {
     const KEEPS: bool = true;
-
-    fn load_index(word: &AtomicU64) -> u64 {
-        word.load(SeqCst)
-    }
-    fn store_index(word: &AtomicU64, value: u64) {
-        word.store(value, SeqCst)
-    }
-    fn load_cell(word: &AtomicU64) -> u64 {
-        word.load(SeqCst)
-    }
-    fn store_cell(word: &AtomicU64, value: u64) {
-        word.store(value, SeqCst)
-    }
-    fn full_fence() {}
 }
 
 pub struct Fenced;
