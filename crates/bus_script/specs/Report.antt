@@ -1,5 +1,5 @@
 -- The text of a run's outcomes.
-use Rattle.std.specs.Prelude.{ℕ, ◌≡◌, ◌+◌, ◌*◌, ◌/◌, ◌%◌, Bool, true, false, List, [], ◌∷◌, ◌++◌, Option, Some, None, is_some, IfSome, ◌&&◌, ◌||◌, if◌then◌else◌, codes, count_by, map, sum_by, length, filter, take, nat_le}
+use Rattle.std.specs.Prelude.{ℕ, ◌≡◌, ◌+◌, ◌*◌, ◌/◌, ◌%◌, Bool, true, false, List, [], ◌∷◌, ◌++◌, Option, Some, None, is_some, IfSome, ◌||◌, if◌then◌else◌, codes, count_by, sum_by, length, filter, take, nat_le}
 use Rattle.std.specs.List.{flat_map, zip}
 use Rattle.std.specs.Option.{option_map_or}
 use Rattle.std.specs.Fmt.{decimal}
@@ -8,7 +8,6 @@ use Rattle.contact.specs.declared.version.Version.{Version}
 use Rattle.rndis_msg.specs.declared.rndis.Rndis.{Rndis}
 use Rattle.rndis_msg.specs.declared.rndis.Rndis.TheVariants.{Packet, QueryComplete, SetComplete, ResetComplete, KeepaliveComplete}
 use Rattle.rndis_msg.specs.Messages.{body_of}
-use Rattle.kvp_ic.specs.declared.message.KvpReply.{KvpReply}
 use Rattle.scsi_disk.specs.declared.reply.DiskReply.{DiskReply}
 use Rattle.scsi_disk.specs.declared.reply.DiskReply.TheVariants.{Good, Check}
 use Rattle.util_ic.specs.declared.ic.IcAnswer.{IcAnswer}
@@ -23,6 +22,7 @@ use Rattle.bus_script.specs.declared.outcome.Reply.{Reply}
 use Rattle.bus_script.specs.declared.outcome.Reply.TheVariants.{Ic as IcReply, Disk as ReplyDisk, Net as ReplyNet, Kvp as ReplyKvp}
 use Rattle.bus_script.specs.declared.outcome.LineResult.{LineResult}
 use Rattle.bus_script.specs.declared.outcome.LineResult.TheVariants.{Version as Agreed, Done, RescindedServed, Unserved, Modified, Unsupported, Gone, Closed}
+use Rattle.kvp_lines.specs.Replies.{pair_text}
 use Rattle.script_text.specs.Hex.{hex_8, hex_2, hex_short}
 use Rattle.script_text.specs.Runs.{runs_of, runs_text}
 use Rattle.script_lines.specs.Lines.{contact_of}
@@ -95,19 +95,6 @@ abbrev pub net_text : Rndis → Option Rndis → List ℕ
 net_text (Packet frame) back = codes "sent" ++ back_text back
 net_text message None = []
 net_text message (Some back) = completion_text back
-
--- a unit of a text as a byte: ? where no word of a line has it
-abbrev pub unit_text : ℕ → ℕ
-unit_text unit = if nat_le 0x21 unit && nat_le unit 0x7E then unit else 63
-
--- a word and a text behind it, where there is one
-abbrev pub part_text : List ℕ → Option (List ℕ) → List ℕ
-part_text word None = []
-part_text word (Some units) = word ++ map unit_text units
-
--- status 0xSTATUS, and behind it key KEY and value VALUE, where they came
-abbrev pub pair_text : KvpReply → List ℕ
-pair_text reply = status_text reply.status ++ (part_text (codes " key ") reply.key ++ part_text (codes " value ") reply.value)
 
 -- a reply to a request; one of another kind of device has no text
 abbrev pub reply_text : Ask → Reply → List ℕ

@@ -1,17 +1,16 @@
 //! The report of a run, written as bytes.
-ghost use Rattle.std.specs.Prelude.{◌≡◌, ◌<◌, ◌≤◌, ◌++◌, ◌+◌, ◌*◌, ◌^◌, List, length, IfOk, OnOk, count_by, map, vec_len, codes, cond, false};
+ghost use Rattle.std.specs.Prelude.{◌≡◌, ◌<◌, ◌≤◌, ◌++◌, ◌+◌, ◌*◌, length, IfOk, OnOk, count_by, vec_len, codes, cond, false};
 ghost use Rattle.std.specs.Fmt.{decimal};
 ghost use Rattle.contact.specs.Versions.{IsVersion};
-ghost use Rattle.script_lines.specs.Parts.{is_ask, asks_in};
+ghost use Rattle.script_lines.specs.Parts.{is_ask};
 ghost use Rattle.script_text.specs.Hex.{hex_short};
-ghost use Rattle.script_text.specs.Runs.{runs_of, runs_text};
+ghost use Rattle.script_text.specs.Runs.{runs_of};
 ghost use Rattle.rndis_msg.specs.Messages.{body_of};
-ghost use Rattle.bus_script.specs.Report.{Answers, versions_from, last_or, tried, version_text, versions_text, contact_text, good_text, disk_text, disk_runs, answer_text, bytes_text, status_text, completion_text, back_text, net_text, net_runs, unit_text, part_text, pair_text, reply_text, reply_room, result_room, room_back, ask_text, agreed_text, modified_text, outcome_text, line_text, end_text, report_of, tells, HasVersion, most_text, is_done, is_rescinded};
+ghost use Rattle.bus_script.specs.Report.{Answers, versions_from, last_or, tried, version_text, versions_text, contact_text, good_text, disk_text, disk_runs, answer_text, bytes_text, status_text, completion_text, back_text, net_text, net_runs, reply_text, reply_room, result_room, room_back, ask_text, agreed_text, modified_text, outcome_text, line_text, end_text, report_of, tells, HasVersion, most_text, is_done, is_rescinded};
 
 use crate::{LineResult, Reply};
 use contact::{Version, next_version};
-use kvp_ic::KvpReply;
-use kvp_pool::Units;
+use kvp_lines::push_pair;
 use rndis_msg::Rndis;
 use script_lines::{Ask, Line, Script, What};
 use script_text::{hex_2, hex_8, push_decimal, push_runs};
@@ -196,56 +195,6 @@ fn push_net(text: &mut Vec<u8>, message: &Rndis, back: &Option<Rndis>) -> Result
         (_, Some(back)) => push_completion(text, back),
         (_, None) => Ok(()),
     }
-}
-
-/// A unit of a text as a byte: `?` where no word of a line has it.
-fn unit_byte(unit: u16) -> u8
-    ensures { result ≡ unit_text unit }
-{
-    if 0x21 <= unit && unit <= 0x7E {
-        unit as u8
-    } else {
-        b'?'
-    }
-}
-
-/// A text, a byte for each of its units.
-fn push_units(text: &mut Vec<u8>, units: &[u16]) -> Result<(), AllocError>
-    ensures text { OnOk result (text.new.items ≡ text.old.items ++ map unit_text units.now) }
-    ensures short { OnOk result (vec_len text.new ≤ vec_len text.old + length units.now) }
-{
-    for i in 0..units.len() {
-        text.push(unit_byte(units[i]))?;
-    }
-    Ok(())
-}
-
-/// A word and a text behind it, where there is one.
-fn push_part<const MIN: usize, const MAX: usize>(
-    text: &mut Vec<u8>,
-    word: &[u8],
-    part: &Option<Units<MIN, MAX>>,
-) -> Result<(), AllocError>
-    ensures text { OnOk result (text.new.items ≡ text.old.items ++ part_text word.now part.now) }
-    ensures short { OnOk result (vec_len text.new ≤ vec_len text.old + length word.now + MAX) }
-{
-    match part {
-        Some(units) => {
-            text.extend_from_slice(word)?;
-            push_units(text, units.units())
-        }
-        None => Ok(()),
-    }
-}
-
-/// A key-value service's reply.
-fn push_pair(text: &mut Vec<u8>, reply: &KvpReply) -> Result<(), AllocError>
-    ensures text { OnOk result (text.new.items ≡ text.old.items ++ pair_text reply.now) }
-    ensures short { OnOk result (vec_len text.new ≤ vec_len text.old + 29 + 255 + 1023) }
-{
-    push_status(text, reply.status)?;
-    push_part(text, b" key ", &reply.key)?;
-    push_part(text, b" value ", &reply.value)
 }
 
 /// A reply to a request. One of another kind of device has no text.

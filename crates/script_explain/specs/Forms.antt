@@ -1,10 +1,11 @@
 -- The forms and ranges of words, as rows have them.
-use Rattle.std.specs.Prelude.{ℕ, Bool, true, false, not, ◌&&◌, ◌||◌, is_some, nat_le, List, [], length, codes, bytes_eq, if◌then◌else◌}
+use Rattle.std.specs.Prelude.{ℕ, Bool, true, false, not, ◌&&◌, ◌||◌, is_some, nat_le, List, length, codes, bytes_eq, if◌then◌else◌}
 use Rattle.std.specs.Option.{option_map_or}
 use Rattle.script_text.specs.Words.{is_word}
 use Rattle.script_text.specs.Forms.{is_name, is_decimal, number_of, in_u64, is_byte, is_version, version_of, are_bytes, bytes_of, is_address, is_oid}
+use Rattle.kvp_lines.specs.Forms as pair
 use Rattle.script_explain.specs.declared.form.Form.{Form}
-use Rattle.script_explain.specs.declared.form.Form.TheVariants.{End, Name, Kind, Number, Version, Byte, Bytes, Oid, Address, After, Held, Operation, Text}
+use Rattle.script_explain.specs.declared.form.Form.TheVariants.{End, Name, Kind, Number, Version, Byte, Bytes, Oid, Address, After, Held, OfPair}
 
 -- a word has the form
 abbrev pub takes : Form → List ℕ → Bool
@@ -19,40 +20,22 @@ takes Oid word = is_oid word
 takes Address word = is_address word
 takes After word = bytes_eq word (codes "after")
 takes Held word = bytes_eq word (codes "held")
-takes Operation word = bytes_eq word (codes "set") || (bytes_eq word (codes "get") || (bytes_eq word (codes "del") || bytes_eq word (codes "enum")))
-takes (Text most) word = true
+takes (OfPair form) word = pair.takes form word
 
 -- nothing may stand there
 abbrev pub may_lack : Form → Bool
 may_lack End = true
-may_lack Name = false
-may_lack Kind = false
-may_lack (Number low high) = false
-may_lack Version = false
-may_lack Byte = false
-may_lack (Bytes least most) = false
-may_lack Oid = false
-may_lack Address = false
-may_lack After = false
 may_lack Held = true
-may_lack Operation = false
-may_lack (Text most) = false
+may_lack (OfPair form) = pair.may_lack form
+may_lack _ = false
 
 -- a word of the form is in its range
 abbrev pub admits : Form → List ℕ → Bool
-admits End word = true
-admits Name word = true
-admits Kind word = true
 admits (Number low high) word = is_decimal word && option_map_or (λ n. nat_le low n && nat_le n high) (in_u64 (number_of word)) false
 admits Version word = is_version word && is_some (version_of word)
-admits Byte word = true
 admits (Bytes least most) word = are_bytes word && (nat_le least (length (bytes_of word)) && nat_le (length (bytes_of word)) most)
-admits Oid word = true
-admits Address word = true
-admits After word = true
-admits Held word = true
-admits Operation word = true
-admits (Text most) word = nat_le (length word) most
+admits (OfPair form) word = pair.admits form word
+admits _ word = true
 
 -- what stands there, a word or nothing, has the form
 abbrev pub fits : Form → List ℕ → Bool

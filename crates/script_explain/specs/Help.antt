@@ -5,7 +5,6 @@ use Rattle.std.specs.Fmt.{decimal}
 use Rattle.std.specs.Str.Lines.{lines}
 use Rattle.script_text.specs.declared.fault.Why6.{Why6}
 use Rattle.script_text.specs.declared.fault.Why6.TheVariants.{Form, UnknownName, Repeat, Range, Limit, Order}
-use Rattle.script_text.specs.declared.fault.ScriptFault.{ScriptFault}
 use Rattle.script_explain.specs.declared.row.Row.{Row}
 use Rattle.script_explain.specs.Places.{same_word}
 use Rattle.script_explain.specs.Rows.{told}

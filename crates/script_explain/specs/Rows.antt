@@ -1,10 +1,12 @@
 -- The rows of the table of lines, as they are told.
 use Rattle.std.specs.Prelude.{ℕ, List, [], ◌∷◌, Option, Some, None, codes, bytes_eq, if◌then◌else◌}
 use Rattle.std.specs.Option.{option_or}
+use Rattle.kvp_lines.specs.Forms as pair
+use Rattle.kvp_lines.specs.declared.form.PairForm.{PairForm}
 use Rattle.script_explain.specs.declared.form.Form.{Form}
-use Rattle.script_explain.specs.declared.form.Form.TheVariants.{End, Name, Kind, Number, Version, Byte, Bytes, Oid, Address, After, Held, Operation, Text}
+use Rattle.script_explain.specs.declared.form.Form.TheVariants.{End, Name, Kind, Number, Version, Byte, Bytes, Oid, Address, After, Held, OfPair}
 use Rattle.script_explain.specs.declared.row.Row.{Row}
-use Rattle.script_explain.specs.declared.row.Row.TheVariants.{Contact, Offer, OfferDisk, OfferNet, Bad, Ring, Window, Ready, Inquiry, Capacity, LongCapacity, Flush, Read, Write, Beat, Down, Query, Set, Keep, Reset, Frame, Pair, PairSet, PairGet, PairDelete, PairEnum, Rescind, Close, Modify, Phase}
+use Rattle.script_explain.specs.declared.row.Row.TheVariants.{Contact, Offer, OfferDisk, OfferNet, Bad, Ring, Window, Ready, Inquiry, Capacity, LongCapacity, Flush, Read, Write, Beat, Down, Query, Set, Keep, Reset, Frame, Pair, Rescind, Close, Modify, Phase}
 
 -- how a row is written, with its ranges
 abbrev pub told : Row → List ℕ
@@ -29,15 +31,15 @@ told Set = codes "set NAME OID HEX: OID is 0x and 8 hexadecimal digits, HEX 1 to
 told Keep = codes "keep NAME"
 told Reset = codes "reset NAME"
 told Frame = codes "frame NAME HEX: HEX is 14 to 1514 bytes"
-told Pair = codes "kvp NAME set POOL KEY VALUE, kvp NAME get POOL KEY, kvp NAME del POOL KEY or kvp NAME enum POOL INDEX"
-told PairSet = codes "kvp NAME set POOL KEY VALUE: POOL is 0 to 4, KEY 1 to 255 characters, VALUE 1 to 1023"
-told PairGet = codes "kvp NAME get POOL KEY: POOL is 0 to 4, KEY 1 to 255 characters"
-told PairDelete = codes "kvp NAME del POOL KEY: POOL is 0 to 4, KEY 1 to 255 characters"
-told PairEnum = codes "kvp NAME enum POOL INDEX: POOL is 0 to 4, INDEX 0 to 4294967295"
+told (Pair form) = pair.told form
 told Rescind = codes "rescind NAME after K, or rescind NAME after K held: K is 0 to 4096, and at least 1 before held"
 told Close = codes "close NAME"
 told Modify = codes "modify NAME VP: VP is 0 to 63"
 told Phase = codes "phase"
+
+-- behind the key word of a key-value service, the name and what its own table says
+abbrev pub pair_forms : PairForm → List Form
+pair_forms form = let words = pair.words_of form in Name ∷ OfPair words.0 ∷ OfPair words.1 ∷ OfPair words.2 ∷ OfPair words.3 ∷ []
 
 -- what the words behind its first may be
 abbrev pub forms : Row → List Form
@@ -62,11 +64,7 @@ forms Set = Name ∷ Oid ∷ Bytes 1 64 ∷ End ∷ End ∷ []
 forms Keep = Name ∷ End ∷ End ∷ End ∷ End ∷ []
 forms Reset = Name ∷ End ∷ End ∷ End ∷ End ∷ []
 forms Frame = Name ∷ Bytes 14 1514 ∷ End ∷ End ∷ End ∷ []
-forms Pair = Name ∷ Operation ∷ Number 0 4 ∷ End ∷ End ∷ []
-forms PairSet = Name ∷ Operation ∷ Number 0 4 ∷ Text 255 ∷ Text 1023 ∷ []
-forms PairGet = Name ∷ Operation ∷ Number 0 4 ∷ Text 255 ∷ End ∷ []
-forms PairDelete = Name ∷ Operation ∷ Number 0 4 ∷ Text 255 ∷ End ∷ []
-forms PairEnum = Name ∷ Operation ∷ Number 0 4 ∷ Number 0 4294967295 ∷ End ∷ []
+forms (Pair form) = pair_forms form
 forms Rescind = Name ∷ After ∷ Number 0 4096 ∷ Held ∷ End ∷ []
 forms Close = Name ∷ End ∷ End ∷ End ∷ End ∷ []
 forms Modify = Name ∷ Number 0 63 ∷ End ∷ End ∷ End ∷ []
@@ -75,14 +73,6 @@ forms Phase = End ∷ End ∷ End ∷ End ∷ End ∷ []
 -- an offer, by its second word
 abbrev pub offer_row : List ℕ → Row
 offer_row kind = if bytes_eq kind (codes "disk") then OfferDisk else if bytes_eq kind (codes "net") then OfferNet else Offer
-
--- of what a key-value service is asked, by its third
-abbrev pub pair_row : List ℕ → Row
-pair_row operation =
-    if bytes_eq operation (codes "set") then PairSet else
-    if bytes_eq operation (codes "get") then PairGet else
-    if bytes_eq operation (codes "del") then PairDelete else
-    if bytes_eq operation (codes "enum") then PairEnum else Pair
 
 -- settings, but for offers
 abbrev pub settings_row : List ℕ → Option Row
@@ -126,4 +116,4 @@ ending_row key =
 abbrev pub row_of : List ℕ → List ℕ → List ℕ → Option Row
 row_of key second third =
     if bytes_eq key (codes "offer") then Some (offer_row second) else
-    if bytes_eq key (codes "kvp") then Some (pair_row third) else option_or (settings_row key) (option_or (disk_row key) (option_or (device_row key) (ending_row key)))
+    if bytes_eq key (codes "kvp") then Some (Pair (pair.form_of third)) else option_or (settings_row key) (option_or (disk_row key) (option_or (device_row key) (ending_row key)))

@@ -1,5 +1,5 @@
 //! What is said of a script.
-ghost use Rattle.std.specs.Prelude.{◌≡◌, ◌<◌, ◌≤◌, ◌-◌, ◌++◌, [], List, ℕ, length, replicate, slice_get, Some, Err, IfOk, OnOk, MatchOption};
+ghost use Rattle.std.specs.Prelude.{◌≡◌, ◌<◌, ◌≤◌, ◌-◌, ◌++◌, [], length, replicate, slice_get, Some, Err, IfOk, OnOk, MatchOption};
 ghost use Rattle.std.specs.Str.Lines.{lines};
 ghost use Rattle.script_lines.specs.Grammar.{script_of};
 ghost use Rattle.script_explain.specs.Explained.{Explains, Tells, head_text, mark_text, reason_text, shown_text, why_text};

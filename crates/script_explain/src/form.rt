@@ -4,6 +4,7 @@ ghost use Rattle.std.specs.Option.{option_map_or};
 ghost use Rattle.script_text.specs.Forms.{is_decimal, number_of, in_u64, are_bytes, bytes_of};
 ghost use Rattle.script_explain.specs.Forms.{admits, fits, is_far, may_lack, takes};
 
+use kvp_lines::PairWord;
 use script_text::{
     are_bytes, count_bytes, is_address, is_byte, is_decimal, is_name, is_oid, is_version,
     number_of, version_of,
@@ -34,10 +35,8 @@ pub(crate) enum Form {
     After,
     /// The word `held`, or nothing.
     Held,
-    /// What is done to a pair.
-    Operation,
-    /// A word of so many characters at most.
-    Text { most: usize },
+    /// What stands in a row behind `kvp`.
+    OfPair(PairWord),
 }
 
 impl Form {
@@ -63,13 +62,7 @@ impl Form {
             Form::Address => is_address(word),
             Form::After => word == b"after".as_slice(),
             Form::Held => word == b"held".as_slice(),
-            Form::Operation => {
-                word == b"set".as_slice()
-                    || word == b"get".as_slice()
-                    || word == b"del".as_slice()
-                    || word == b"enum".as_slice()
-            }
-            Form::Text { .. } => true,
+            Form::OfPair(form) => form.takes(word),
         }
     }
 
@@ -77,7 +70,11 @@ impl Form {
     fn may_lack(self) -> bool
         ensures { result ≡ may_lack self }
     {
-        matches!(self, Form::End | Form::Held)
+        match self {
+            Form::End | Form::Held => true,
+            Form::OfPair(form) => form.may_lack(),
+            _ => false,
+        }
     }
 
     /// Whether what stands there, a word or nothing, has the form.
@@ -106,7 +103,7 @@ impl Form {
             Form::Number { low, high } => admits_number(word, low, high),
             Form::Version => is_version(word) && version_of(word).is_some(),
             Form::Bytes { least, most } => admits_bytes(word, least, most),
-            Form::Text { most } => word.len() <= most,
+            Form::OfPair(form) => form.admits(word),
             _ => true,
         }
     }

@@ -1,5 +1,5 @@
 //! Which word of a wrong line is at fault, and which earlier line it says again.
-ghost use Rattle.std.specs.Prelude.{◌≡◌, ◌≤◌, length};
+ghost use Rattle.std.specs.Prelude.{◌≡◌, ◌≤◌};
 ghost use Rattle.script_explain.specs.Help.{earlier, says_again};
 ghost use Rattle.script_explain.specs.Marks.{begins_with, far_word, fault_word, last_number, mark_at, mark_of, repeated_word, row_at, wrong_word};
 

@@ -1,8 +1,9 @@
 //! The rows of the table of lines, as they are told.
 ghost use Rattle.std.specs.Prelude.{◌≡◌};
-ghost use Rattle.script_explain.specs.Rows.{device_row, disk_row, ending_row, forms, offer_row, row_of, settings_row, told, pair_row};
+ghost use Rattle.script_explain.specs.Rows.{device_row, disk_row, ending_row, forms, offer_row, row_of, settings_row, told, pair_forms};
 
 use crate::form::Form;
+use kvp_lines::PairForm;
 
 /// A row.
 #[derive(Clone, Copy, Debug, PartialEq, Eq)]
@@ -28,11 +29,7 @@ pub(crate) enum Row {
     Keep,
     Reset,
     Frame,
-    Pair,
-    PairSet,
-    PairGet,
-    PairDelete,
-    PairEnum,
+    Pair(PairForm),
     Rescind,
     Close,
     Modify,
@@ -47,12 +44,6 @@ const WIDE: Form = Form::Number {
 
 // So many blocks.
 const COUNT: Form = Form::Number { low: 0, high: 8 };
-
-// The number of a pool.
-const POOL: Form = Form::Number { low: 0, high: 4 };
-
-// A key's characters.
-const KEY: Form = Form::Text { most: 255 };
 
 impl Row {
     /// How it is written, with its ranges.
@@ -85,13 +76,7 @@ impl Row {
             Row::Keep => b"keep NAME",
             Row::Reset => b"reset NAME",
             Row::Frame => b"frame NAME HEX: HEX is 14 to 1514 bytes",
-            Row::Pair =>
-                b"kvp NAME set POOL KEY VALUE, kvp NAME get POOL KEY, kvp NAME del POOL KEY or kvp NAME enum POOL INDEX",
-            Row::PairSet =>
-                b"kvp NAME set POOL KEY VALUE: POOL is 0 to 4, KEY 1 to 255 characters, VALUE 1 to 1023",
-            Row::PairGet => b"kvp NAME get POOL KEY: POOL is 0 to 4, KEY 1 to 255 characters",
-            Row::PairDelete => b"kvp NAME del POOL KEY: POOL is 0 to 4, KEY 1 to 255 characters",
-            Row::PairEnum => b"kvp NAME enum POOL INDEX: POOL is 0 to 4, INDEX 0 to 4294967295",
+            Row::Pair(form) => form.told(),
             Row::Rescind =>
                 b"rescind NAME after K, or rescind NAME after K held: K is 0 to 4096, and at least 1 before held",
             Row::Close => b"close NAME",
@@ -183,25 +168,7 @@ impl Row {
                 Form::End,
                 Form::End,
             ],
-            Row::Pair => [Form::Name, Form::Operation, POOL, Form::End, Form::End],
-            Row::PairSet => [
-                Form::Name,
-                Form::Operation,
-                POOL,
-                KEY,
-                Form::Text { most: 1_023 },
-            ],
-            Row::PairGet | Row::PairDelete => [Form::Name, Form::Operation, POOL, KEY, Form::End],
-            Row::PairEnum => [
-                Form::Name,
-                Form::Operation,
-                POOL,
-                Form::Number {
-                    low: 0,
-                    high: 4_294_967_295,
-                },
-                Form::End,
-            ],
+            Row::Pair(form) => pair_forms(form),
             Row::Rescind => [
                 Form::Name,
                 Form::After,
@@ -233,7 +200,7 @@ pub(crate) fn row_of(key: &[u8], second: &[u8], third: &[u8]) -> Option<Row>
         return Some(offer_row(second));
     }
     if key == b"kvp".as_slice() {
-        return Some(pair_row(third));
+        return Some(Row::Pair(PairForm::of(third)));
     }
     match settings_row(key) {
         Some(row) => Some(row),
@@ -261,20 +228,17 @@ fn offer_row(kind: &[u8]) -> Row
 }
 
 // Of what a key-value service is asked.
-fn pair_row(operation: &[u8]) -> Row
-    ensures { result ≡ pair_row operation.now }
+fn pair_forms(form: PairForm) -> [Form; 5]
+    ensures { result ≡ pair_forms form }
 {
-    if operation == b"set".as_slice() {
-        Row::PairSet
-    } else if operation == b"get".as_slice() {
-        Row::PairGet
-    } else if operation == b"del".as_slice() {
-        Row::PairDelete
-    } else if operation == b"enum".as_slice() {
-        Row::PairEnum
-    } else {
-        Row::Pair
-    }
+    let words = form.words();
+    [
+        Form::Name,
+        Form::OfPair(words.0),
+        Form::OfPair(words.1),
+        Form::OfPair(words.2),
+        Form::OfPair(words.3),
+    ]
 }
 
 // Settings, but for offers.

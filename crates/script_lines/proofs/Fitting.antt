@@ -21,12 +21,11 @@ use Rattle.script_lines.specs.declared.line.DeviceSpec.TheVariants.{Beat as IsBe
 use Rattle.script_lines.specs.declared.asked.Asked.{Asked}
 use Rattle.script_lines.specs.declared.asked.Asked.TheVariants.{Beat, Down, Command, Message, Pair}
 use Rattle.script_lines.specs.declared.offering.Offering.{Offering}
-use Rattle.script_lines.specs.declared.offering.Offering.TheVariants.{Beat as OfBeat, Down as OfDown, Disk as OfDisk, Net as OfNet, Kvp as OfKvp}
-use Rattle.contact.specs.declared.kind.DeviceKind.TheVariants.{Beat as KindBeat, Down as KindDown, Disk as KindDisk, Net as KindNet, Kvp as KindKvp}
+use Rattle.script_lines.specs.declared.offering.Offering.TheVariants.{Disk as OfDisk, Plain}
 use Rattle.script_lines.specs.declared.said.Said.{Said}
 use Rattle.script_lines.specs.declared.said.Said.TheVariants.{Contact, Offer, Bad, Ring, Window, Request, Rescind, Close, Modify, Phase}
 use Rattle.script_lines.specs.Parts.{is_settings, offered, kind_of, kind_asked, phases_over, phase_from, rescinds, shuts, modified_here, channels, channels_of, device_of, blocks_at, has_bad}
-use Rattle.script_lines.specs.Faults.{unless, device_said, says_settings, line_limit, ask_limit, has_room, count_limit, is_first, is_over, is_now, is_ended_before, own_order, order_fault, is_beat, is_down, is_disk, is_net, is_kvp, takes, is_rescindable, is_offered, name_fault, is_bad, repeat_fault, offers_in_range, is_block, asked_in_range, range_fault, row_fault}
+use Rattle.script_lines.specs.Faults.{unless, device_said, says_settings, line_limit, ask_limit, has_room, count_limit, is_first, is_over, is_now, is_ended_before, own_order, order_fault, takes, is_rescindable, is_offered, name_fault, is_bad, repeat_fault, offers_in_range, is_block, asked_in_range, range_fault, row_fault}
 use Rattle.script_lines.specs.Grammar.{or_zero, spec_of, ask_of}
 use Rattle.script_lines.specs.WellFormed.{IsDevice, IsRescindable, CanGo, OfferInRange, AskedInRange, InRange, Fits}
 use Rattle.script_text.specs.Forms.{within}
@@ -96,33 +95,14 @@ kind_at [] d spec is = absurd (cc)
 kind_at (s ∷ specs) zero spec is = ap (option_map kind_of) is
 kind_at (s ∷ specs) (suc d) spec is = kind_at specs d spec is
 
-beat_kind : (spec : DeviceSpec) → is_beat spec ≡ true → kind_of spec ≡ KindBeat
-beat_kind IsBeat is = refl
-beat_kind _ is = absurd (cc)
-
-down_kind : (spec : DeviceSpec) → is_down spec ≡ true → kind_of spec ≡ KindDown
-down_kind IsDown is = refl
-down_kind _ is = absurd (cc)
-
-disk_kind : (spec : DeviceSpec) → is_disk spec ≡ true → kind_of spec ≡ KindDisk
-disk_kind (IsDisk blocks subs) is = refl
-disk_kind _ is = absurd (cc)
-
-net_kind : (spec : DeviceSpec) → is_net spec ≡ true → kind_of spec ≡ KindNet
-net_kind (IsNet mac station) is = refl
-net_kind _ is = absurd (cc)
-
-kvp_kind : (spec : DeviceSpec) → is_kvp spec ≡ true → kind_of spec ≡ KindKvp
-kvp_kind IsKvp is = refl
-kvp_kind _ is = absurd (cc)
-
 -- the device of a request has the kind that is asked so
 kind_taken : (asked : Asked) (spec : DeviceSpec) → takes asked spec ≡ true → kind_of spec ≡ kind_asked (ask_of asked)
-kind_taken (Beat seq) spec is = beat_kind spec is
-kind_taken (Down flags) spec is = down_kind spec is
-kind_taken (Command ask) spec is = disk_kind spec is
-kind_taken (Message message) spec is = net_kind spec is
-kind_taken (Pair request) spec is = kvp_kind spec is
+kind_taken (Beat seq) IsBeat is = refl
+kind_taken (Down flags) IsDown is = refl
+kind_taken (Command ask) (IsDisk blocks subs) is = refl
+kind_taken (Message message) (IsNet mac station) is = refl
+kind_taken (Pair request) IsKvp is = refl
+kind_taken _ _ is = absurd (cc)
 
 -- and a device that can be rescinded is a disk or a network
 kind_rescinded : (spec : DeviceSpec) (kind : Option DeviceKind) → kind ≡ Some (kind_of spec) → is_rescindable spec ≡ true → IsRescindable kind
@@ -154,19 +134,13 @@ no_more_within n = by_test (nat_le 0 n && nat_le n 3)
 
 -- a device that is offered in its ranges
 device_right : (offering : Offering) → offers_in_range offering ≡ true → OfferInRange offering → IsDevice (spec_of offering)
-device_right OfBeat holds range = tt
-device_right OfDown holds range = tt
 device_right (OfDisk None subs) holds range = absurd (cc)
 device_right (OfDisk (Some blocks) subs) holds range = (range.0, range.1, three_within subs)
-device_right (OfNet mac station) holds range = range
-device_right OfKvp holds range = tt
+device_right (Plain spec) holds range = range
 
 -- and its channels
 room_is : (before : List Line) (offering : Offering) → has_room before offering ≡ true → channels before + channels_of (spec_of offering) ≤ 16
-room_is before OfBeat room = grind (arith, nat_tests, room)
-room_is before OfDown room = grind (arith, nat_tests, room)
-room_is before (OfNet mac station) room = grind (arith, nat_tests, room)
-room_is before OfKvp room = grind (arith, nat_tests, room)
+room_is before (Plain spec) room = grind (arith, nat_tests, room)
 room_is before (OfDisk blocks None) room = absurd (cc)
 room_is before (OfDisk blocks (Some subs)) room =
     let most : channels before + (1 + subs) ≤ 16 = grind (arith, nat_tests, room) in omega (arith, most, no_more_within subs)

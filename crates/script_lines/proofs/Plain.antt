@@ -9,9 +9,9 @@ use Rattle.script_text.specs.declared.fault.ScriptFault.{ScriptFault}
 use Rattle.script_lines.specs.declared.line.Line.{Line}
 use Rattle.script_lines.specs.declared.line.What.{What}
 use Rattle.script_lines.specs.declared.line.Ask.{Ask}
-use Rattle.script_lines.specs.declared.line.Ask.TheVariants.{Ic, Disk as AskDisk, Net as AskNet, Kvp as AskKvp}
+use Rattle.script_lines.specs.declared.line.Ask.TheVariants.{Disk as AskDisk}
 use Rattle.script_lines.specs.declared.asked.Asked.{Asked}
-use Rattle.script_lines.specs.declared.asked.Asked.TheVariants.{Beat, Down, Command, Message, Pair}
+use Rattle.script_lines.specs.declared.asked.Asked.TheVariants.{Command}
 use Rattle.script_lines.specs.declared.disk_ask.DiskAsk.{DiskAsk}
 use Rattle.script_lines.specs.declared.disk_ask.DiskAsk.TheVariants.{Ready, Inquiry, Capacity, LongCapacity, Flush, Read, Write}
 use Rattle.script_lines.specs.declared.said.Said.{Said}
@@ -24,10 +24,8 @@ use Rattle.script_lines.specs.Grammar.{ask_of, what_of, numbered, said_lines, li
 
 -- the data of a request are all the same byte
 abbrev pub PlainAsk : Ask → Type 0
-PlainAsk (Ic ask) = Unit {0}
 PlainAsk (AskDisk request) = IsOneByte request.out
-PlainAsk (AskNet message) = Unit {0}
-PlainAsk (AskKvp request) = Unit {0}
+PlainAsk _ = Unit {0}
 
 abbrev pub PlainSays : Says → Type 0
 PlainSays (Asks ask) = PlainAsk ask
@@ -58,11 +56,8 @@ request_plain (Read lba count) = no_data
 request_plain (Write lba count byte) = one_byte (512 * unwrap_or count 0) byte
 
 asked_plain : (asked : Asked) → PlainAsk (ask_of asked)
-asked_plain (Beat seq) = tt
-asked_plain (Down flags) = tt
 asked_plain (Command ask) = request_plain ask
-asked_plain (Message message) = tt
-asked_plain (Pair request) = tt
+asked_plain _ = tt
 
 what_plain : (device : Option ℕ) (said : Said) → PlainSome (what_of device said)
 what_plain device Nothing = tt

@@ -1,7 +1,7 @@
 -- Why a line is refused after the lines before it.
 use Rattle.std.specs.Prelude.{ℕ, ◌+◌, ◌==◌, Bool, true, false, not, ◌&&◌, ◌||◌, is_some, nat_le, nat_lt, List, [], ◌∷◌, Option, Some, None, if◌then◌else◌, option_and_then, slice_get}
 use Rattle.std.specs.List.{list_all}
-use Rattle.std.specs.Option.{option_or, option_map_or}
+use Rattle.std.specs.Option.{option_or, option_map, option_map_or}
 use Rattle.script_text.specs.declared.fault.Why6.{Why6}
 use Rattle.script_text.specs.declared.fault.Why6.TheVariants.{Form, Limit, Order, UnknownName, Repeat, Range}
 use Rattle.script_lines.specs.declared.line.Line.{Line}
@@ -12,10 +12,10 @@ use Rattle.script_lines.specs.declared.asked.Asked.TheVariants.{Beat, Down, Comm
 use Rattle.script_lines.specs.declared.disk_ask.DiskAsk.{DiskAsk}
 use Rattle.script_lines.specs.declared.disk_ask.DiskAsk.TheVariants.{Ready, Inquiry, Capacity, LongCapacity, Flush, Read, Write}
 use Rattle.script_lines.specs.declared.offering.Offering.{Offering}
-use Rattle.script_lines.specs.declared.offering.Offering.TheVariants.{Beat as OfBeat, Down as OfDown, Disk as OfDisk, Net as OfNet, Kvp as OfKvp}
+use Rattle.script_lines.specs.declared.offering.Offering.TheVariants.{Disk as OfDisk, Plain}
 use Rattle.script_lines.specs.declared.said.Said.{Said}
 use Rattle.script_lines.specs.declared.said.Said.TheVariants.{Nothing, Contact, Offer, Bad, Ring, Window, Request, Rescind, Close, Modify, Phase}
-use Rattle.script_lines.specs.Parts.{is_settings, asks_in, this_part, phases_over, offered, channels, has_bad, has_ring, has_window, rescinded_in, closed_in, modified_here, device_of, blocks_at}
+use Rattle.script_lines.specs.Parts.{is_settings, asks_in, this_part, phases_over, offered, channels, channels_of, has_bad, has_ring, has_window, rescinded_in, closed_in, modified_here, device_of, blocks_at}
 use Rattle.script_text.specs.Forms.{within}
 use Rattle.script_lines.specs.Rows.{said_in}
 
@@ -65,12 +65,8 @@ ask_limit before = unless (nat_lt (asks_in (this_part before)) 4096) Limit
 
 -- the channels of what is offered, where their number has 64 bits: a disk has those beside its first one too
 abbrev pub channels_said : Offering → Option ℕ
-channels_said OfBeat = Some 1
-channels_said OfDown = Some 1
-channels_said (OfDisk blocks None) = None
-channels_said (OfDisk blocks (Some subs)) = Some (1 + subs)
-channels_said (OfNet mac station) = Some 1
-channels_said OfKvp = Some 1
+channels_said (OfDisk blocks subs) = option_map (λ n. 1 + n) subs
+channels_said (Plain spec) = Some (channels_of spec)
 
 -- with them the devices have 16 channels at most
 abbrev pub has_room : List Line → Offering → Bool
@@ -126,14 +122,6 @@ abbrev pub order_fault : List Line → Option ℕ → Said → Option Why6
 order_fault before device said = option_or (unless (not (says_settings said) || list_all (λ l. is_settings l.what) before) Order) (own_order before device said)
 
 -- which kind of device it is
-abbrev pub is_beat : DeviceSpec → Bool
-is_beat IsBeat = true
-is_beat _ = false
-
-abbrev pub is_down : DeviceSpec → Bool
-is_down IsDown = true
-is_down _ = false
-
 abbrev pub is_disk : DeviceSpec → Bool
 is_disk (IsDisk blocks subs) = true
 is_disk _ = false
@@ -142,17 +130,14 @@ abbrev pub is_net : DeviceSpec → Bool
 is_net (IsNet mac station) = true
 is_net _ = false
 
-abbrev pub is_kvp : DeviceSpec → Bool
-is_kvp IsKvp = true
-is_kvp _ = false
-
 -- the kind of device that is asked this
 abbrev pub takes : Asked → DeviceSpec → Bool
-takes (Beat seq) spec = is_beat spec
-takes (Down flags) spec = is_down spec
-takes (Command ask) spec = is_disk spec
-takes (Message message) spec = is_net spec
-takes (Pair request) spec = is_kvp spec
+takes (Beat seq) IsBeat = true
+takes (Down flags) IsDown = true
+takes (Command ask) (IsDisk blocks subs) = true
+takes (Message message) (IsNet mac station) = true
+takes (Pair request) IsKvp = true
+takes _ _ = false
 
 -- a device that can be rescinded: a disk or a network
 abbrev pub is_rescindable : DeviceSpec → Bool
@@ -204,11 +189,8 @@ repeat_fault before device Phase = None
 
 -- a disk has 1 to 2^40 blocks, and at most 3 channels beside its first one
 abbrev pub offers_in_range : Offering → Bool
-offers_in_range OfBeat = true
-offers_in_range OfDown = true
 offers_in_range (OfDisk blocks subs) = is_some blocks && is_some (within 0 3 subs)
-offers_in_range (OfNet mac station) = true
-offers_in_range OfKvp = true
+offers_in_range (Plain spec) = true
 
 -- a block of the device
 abbrev pub is_block : List Line → Option ℕ → Option ℕ → Bool

@@ -11,13 +11,13 @@ use Rattle.script_lines.specs.declared.line.What.TheVariants.{Contact as IsConta
 use Rattle.script_lines.specs.declared.line.Ask.{Ask}
 use Rattle.script_lines.specs.declared.line.Ask.TheVariants.{Ic, Disk as AskDisk, Net as AskNet, Kvp as AskKvp}
 use Rattle.script_lines.specs.declared.line.DeviceSpec.{DeviceSpec}
-use Rattle.script_lines.specs.declared.line.DeviceSpec.TheVariants.{Beat as IsBeat, Down as IsDown, Disk as IsDisk, Net as IsNet, Kvp as IsKvp}
+use Rattle.script_lines.specs.declared.line.DeviceSpec.TheVariants.{Disk as IsDisk}
 use Rattle.script_lines.specs.declared.asked.Asked.{Asked}
 use Rattle.script_lines.specs.declared.asked.Asked.TheVariants.{Beat, Down, Command, Message, Pair}
 use Rattle.rndis_msg.specs.declared.rndis.Rndis.TheVariants.{Reset}
 use Rattle.kvp_ic.specs.declared.message.Kvp.TheVariants.{Enum}
 use Rattle.script_lines.specs.declared.offering.Offering.{Offering}
-use Rattle.script_lines.specs.declared.offering.Offering.TheVariants.{Beat as OfBeat, Down as OfDown, Disk as OfDisk, Net as OfNet, Kvp as OfKvp}
+use Rattle.script_lines.specs.declared.offering.Offering.TheVariants.{Disk as OfDisk, Plain}
 use Rattle.script_lines.specs.declared.said.Said.{Said}
 use Rattle.script_lines.specs.declared.said.Said.TheVariants.{Nothing, Contact, Offer, Bad, Ring, Window, Request, Rescind, Close, Modify, Phase}
 use Rattle.script_text.specs.Forms.{within}
@@ -31,11 +31,8 @@ or_zero version = unwrap_or version (record { 0 = 0 })
 
 -- the device that is offered, or 0 where a number is out of range
 abbrev pub spec_of : Offering → DeviceSpec
-spec_of OfBeat = IsBeat
-spec_of OfDown = IsDown
 spec_of (OfDisk blocks subs) = IsDisk (unwrap_or blocks 0) (unwrap_or (within 0 3 subs) 0)
-spec_of (OfNet mac station) = IsNet mac station
-spec_of OfKvp = IsKvp
+spec_of (Plain spec) = spec
 
 -- the request that a line makes, with 0 where a number is out of range, a reset where a message is, and the first pair of pool 0 where a request about pairs is
 abbrev pub ask_of : Asked → Ask

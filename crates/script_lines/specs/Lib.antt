@@ -1,7 +1,6 @@
 pub mod Lines
 pub mod Parts
 pub mod Requests
-pub mod PairRows
 pub mod Rows
 pub mod Faults
 pub mod Grammar

@@ -5,14 +5,16 @@ use Rattle.std.specs.Option.{option_map}
 use Rattle.std.specs.Str.{bytes_eq}
 use Rattle.rndis_msg.specs.declared.rndis.Rndis.{Rndis}
 use Rattle.rndis_msg.specs.declared.rndis.Rndis.TheVariants.{Packet, Query, Set, Reset, Keepalive}
-use Rattle.script_lines.specs.declared.asked.Asked.TheVariants.{Beat, Down, Command, Message}
+use Rattle.script_lines.specs.declared.asked.Asked.TheVariants.{Beat, Down, Command, Message, Pair}
 use Rattle.script_lines.specs.declared.disk_ask.DiskAsk.{DiskAsk}
 use Rattle.script_lines.specs.declared.disk_ask.DiskAsk.TheVariants.{Ready, Inquiry, Capacity, LongCapacity, Flush, Read, Write}
-use Rattle.script_lines.specs.declared.offering.Offering.TheVariants.{Beat as OfBeat, Down as OfDown, Disk as OfDisk, Net as OfNet, Kvp as OfKvp}
+use Rattle.script_lines.specs.declared.line.DeviceSpec.{DeviceSpec}
+use Rattle.script_lines.specs.declared.line.DeviceSpec.TheVariants.{Beat as IsBeat, Down as IsDown, Net as IsNet, Kvp as IsKvp}
+use Rattle.script_lines.specs.declared.offering.Offering.TheVariants.{Disk as OfDisk, Plain}
 use Rattle.script_lines.specs.declared.said.Said.{Said}
 use Rattle.script_lines.specs.declared.said.Said.TheVariants.{Nothing, Contact, Offer, Bad, Ring, Window, Request, Rescind, Close, Modify, Phase}
 use Rattle.script_text.specs.Words.{words}
-use Rattle.script_lines.specs.PairRows.{pair_row}
+use Rattle.kvp_lines.specs.Rows.{operation_row}
 use Rattle.script_text.specs.Forms.{is_name, is_decimal, number_of, in_u64, within, is_byte, byte_of, is_version, version_of, are_bytes, bytes_of, is_address, is_oid, oid_of}
 
 -- NAME
@@ -47,18 +49,22 @@ disk_offer others = option_map (λ p. Offer p.0 (OfDisk (blocks_in p.1) p.2)) (n
 -- NAME MAC STATION, behind offer net
 abbrev pub net_offer : List (List ℕ) → Option Said
 net_offer (name ∷ mac ∷ station ∷ []) =
-    if is_name name && is_address mac && is_address station then Some (Offer name (OfNet (bytes_of mac) (bytes_of station))) else None
+    if is_name name && is_address mac && is_address station then Some (Offer name (Plain (IsNet (bytes_of mac) (bytes_of station)))) else None
 net_offer others = None
 
--- hb NAME, shutdown NAME, kvp NAME, or disk or net and what stands behind it, behind offer
+-- NAME, behind offer and a kind of device that has no more
+abbrev pub plain_offer : DeviceSpec → List (List ℕ) → Option Said
+plain_offer spec others = option_map (λ name. Offer name (Plain spec)) (name_alone others)
+
+-- a kind of device and what stands behind it, behind offer
 abbrev pub offer_row : List (List ℕ) → Option Said
 offer_row [] = None
 offer_row (kind ∷ others) =
-    if bytes_eq kind (codes "hb") then option_map (λ name. Offer name OfBeat) (name_alone others) else
-    if bytes_eq kind (codes "shutdown") then option_map (λ name. Offer name OfDown) (name_alone others) else
+    if bytes_eq kind (codes "hb") then plain_offer IsBeat others else
+    if bytes_eq kind (codes "shutdown") then plain_offer IsDown others else
     if bytes_eq kind (codes "disk") then disk_offer others else
     if bytes_eq kind (codes "net") then net_offer others else
-    if bytes_eq kind (codes "kvp") then option_map (λ name. Offer name OfKvp) (name_alone others) else None
+    if bytes_eq kind (codes "kvp") then plain_offer IsKvp others else None
 
 -- NAME LBA, behind bad
 abbrev pub bad_row : List (List ℕ) → Option Said
@@ -132,6 +138,11 @@ set_row others = None
 abbrev pub frame_row : List (List ℕ) → Option Said
 frame_row (name ∷ frame ∷ []) = if is_name name && are_bytes frame then Some (Request name (Message (frame_said frame))) else None
 frame_row others = None
+
+-- NAME and an operation, behind kvp
+abbrev pub pair_row : List (List ℕ) → Option Said
+pair_row (name ∷ operation ∷ others) = if is_name name then option_map (λ request. Request name (Pair request)) (operation_row operation others) else None
+pair_row others = None
 
 -- what stands behind each key word of a network, or of a key-value service
 abbrev pub net_row : List ℕ → List (List ℕ) → Option Said

@@ -9,13 +9,13 @@ use Rattle.script_lines.specs.declared.line.Line.{Line}
 use Rattle.script_lines.specs.declared.line.What.{What}
 use Rattle.script_lines.specs.declared.line.What.TheVariants.{Contact as IsContact, Offer as IsOffer, Bad as IsBad, RingSize as IsRingSize, Window as IsWindow, Ask as IsAsk, Rescind as IsRescind, Shut as IsShut, Modify as IsModify, Phase as IsPhase}
 use Rattle.script_lines.specs.declared.line.DeviceSpec.{DeviceSpec}
-use Rattle.script_lines.specs.declared.line.DeviceSpec.TheVariants.{Beat as IsBeat, Down as IsDown, Disk as IsDisk, Net as IsNet, Kvp as IsKvp}
+use Rattle.script_lines.specs.declared.line.DeviceSpec.TheVariants.{Disk as IsDisk, Net as IsNet}
 use Rattle.script_lines.specs.declared.line.Ask.{Ask}
 use Rattle.script_lines.specs.declared.line.Ask.TheVariants.{Ic, Disk as AskDisk, Net as AskNet, Kvp as AskKvp}
 use Rattle.script_lines.specs.declared.asked.Asked.{Asked}
 use Rattle.script_lines.specs.declared.asked.Asked.TheVariants.{Beat, Down, Command, Message, Pair}
 use Rattle.script_lines.specs.declared.offering.Offering.{Offering}
-use Rattle.script_lines.specs.declared.offering.Offering.TheVariants.{Beat as OfBeat, Down as OfDown, Disk as OfDisk, Net as OfNet, Kvp as OfKvp}
+use Rattle.script_lines.specs.declared.offering.Offering.TheVariants.{Disk as OfDisk, Plain}
 use Rattle.script_lines.specs.declared.said.Said.{Said}
 use Rattle.script_lines.specs.declared.said.Said.TheVariants.{Nothing, Contact, Offer, Bad, Ring, Window, Request, Rescind, Close, Modify, Phase}
 use Rattle.kvp_ic.specs.Messages.{CanBeAsked}
@@ -25,11 +25,9 @@ use Rattle.script_lines.specs.Parts.{parts, this_part, offered, offered_by, name
 
 -- a disk has 1 to 2^40 blocks, and at most 3 channels beside its first one; a network has two addresses of 6 bytes
 abbrev pub IsDevice : DeviceSpec → Type 0
-IsDevice IsBeat = Unit {0}
-IsDevice IsDown = Unit {0}
 IsDevice (IsDisk blocks subs) = (1 ≤ blocks) × (blocks ≤ 2 ^ 40) × (subs ≤ 3)
 IsDevice (IsNet mac station) = (length mac ≡ 6) × (length station ≡ 6)
-IsDevice IsKvp = Unit {0}
+IsDevice _ = Unit {0}
 
 -- the kind of a device that can be rescinded: a disk or a network
 abbrev pub IsRescindable : Option DeviceKind → Type 0
@@ -103,13 +101,10 @@ pub record IsScript (lines : List Line) : Type 0 where
   pub closed : (device : ℕ) → count_by (λ l. shuts device l.what) lines ≤ 1
   pub modified : (device : ℕ) → All (λ part. modifies_in device part ≤ 1) (parts lines)
 
--- a disk's blocks are in their range, where there are any, and a network's addresses have 6 bytes
+-- a disk's blocks are in their range, where there are any, and another device is in its ranges
 abbrev pub OfferInRange : Offering → Type 0
-OfferInRange OfBeat = Unit {0}
-OfferInRange OfDown = Unit {0}
 OfferInRange (OfDisk blocks subs) = IfSome blocks (λ n. (1 ≤ n) × (n ≤ 2 ^ 40))
-OfferInRange (OfNet mac station) = (length mac ≡ 6) × (length station ≡ 6)
-OfferInRange OfKvp = Unit {0}
+OfferInRange (Plain spec) = IsDevice spec
 
 -- what a line asks is in its ranges, where its values are
 abbrev pub AskedInRange : Asked → Type 0

@@ -9,8 +9,6 @@ mod law;
 mod line;
 mod message;
 mod offering;
-mod pair;
-mod pair_row;
 mod reading;
 mod refusal;
 mod request;

@@ -53,21 +53,15 @@ impl Ask {
     {
         // Each arm returns by itself, so that no request is moved through the value of the `match`.
         match self {
-            Ask::Ic(ask) => {
-                return Ask::Ic(*ask);
-            }
+            Ask::Ic(ask) => return Ask::Ic(*ask),
             Ask::Disk(request) => {
                 return Ask::Disk(DiskRequest {
                     cdb: request.cdb,
                     out: request.out.again(),
                 });
             }
-            Ask::Net(message) => {
-                return Ask::Net(message.again());
-            }
-            Ask::Kvp(request) => {
-                return Ask::Kvp(request.again());
-            }
+            Ask::Net(message) => return Ask::Net(message.again()),
+            Ask::Kvp(request) => return Ask::Kvp(request.again()),
         }
     }
 }

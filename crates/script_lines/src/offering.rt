@@ -1,12 +1,10 @@
 //! A device, as one line offers it.
 
+use crate::DeviceSpec;
+
 /// What a line offers, before it is held against the lines before it. A value out of range is none.
 #[derive(Clone, Copy)]
 pub enum Offering {
-    /// A heartbeat service.
-    Beat,
-    /// A shutdown service.
-    Down,
     /// A disk.
     Disk {
         /// How many blocks it has.
@@ -14,13 +12,6 @@ pub enum Offering {
         /// How many channels it has beside the first one, where that is a number of 64 bits.
         subs: Option<u64>,
     },
-    /// A network.
-    Net {
-        /// The adapter's address.
-        mac: [u8; 6],
-        /// The station's address.
-        station: [u8; 6],
-    },
-    /// A key-value service.
-    Kvp,
+    /// A device that has no number.
+    Plain(DeviceSpec),
 }

@@ -1,5 +1,5 @@
 //! A script, read from its bytes.
-ghost use Rattle.std.specs.Prelude.{◌≡◌, ◌+◌, ◌<◌, ◌≤◌, ◌^◌, ◌∷◌, ◌++◌, [], List, length, Option, Some, None, OnOk, IfErr, IfSome, unwrap_or};
+ghost use Rattle.std.specs.Prelude.{◌≡◌, ◌+◌, ◌<◌, ◌≤◌, ◌++◌, length, Option, Some, None, OnOk, IfErr, IfSome, unwrap_or};
 ghost use Rattle.script_text.specs.declared.fault.ParseFault.TheVariants.{Memory};
 ghost use Rattle.script_lines.specs.Parts.{offered};
 ghost use Rattle.script_lines.specs.Faults.{device_said, row_fault, fault_at};
@@ -109,14 +109,11 @@ fn spec_of(offering: Offering) -> DeviceSpec
     ensures { result ≡ spec_of offering }
 {
     match offering {
-        Offering::Beat => DeviceSpec::Beat,
-        Offering::Down => DeviceSpec::Down,
         Offering::Disk { blocks, subs } => DeviceSpec::Disk {
             blocks: blocks.unwrap_or(0),
             subs: within(0, 3, subs).unwrap_or(0),
         },
-        Offering::Net { mac, station } => DeviceSpec::Net { mac, station },
-        Offering::Kvp => DeviceSpec::Kvp,
+        Offering::Plain(spec) => spec,
     }
 }
 

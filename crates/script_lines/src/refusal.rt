@@ -1,5 +1,5 @@
 //! Why a line is refused after the lines before it.
-ghost use Rattle.std.specs.Prelude.{◌≡◌, ◌<◌, ◌≤◌, List, length, Option, Some, None, IfSome, slice_get, option_and_then, false};
+ghost use Rattle.std.specs.Prelude.{◌≡◌, ◌<◌, length, Option, Some, None, IfSome, slice_get, option_and_then, false};
 ghost use Rattle.std.specs.Option.{option_map_or};
 ghost use Rattle.script_lines.specs.Parts.{offered, blocks_at, has_ring, has_window, modified_here};
 ghost use Rattle.script_lines.specs.Faults.{unless, device_said, says_settings, line_limit, ask_limit, has_room, count_limit, is_ended_before, own_order, order_fault, takes, is_rescindable, name_fault, is_rescinded_here, is_closed_here, is_bad, repeat_fault, offers_in_range, is_block, asks_in_range, asked_in_range, range_fault, row_fault};
@@ -65,9 +65,6 @@ fn has_room(before: &Draft, offering: Offering) -> bool
     ensures { result ≡ has_room before.now offering }
 {
     match offering {
-        Offering::Beat | Offering::Down | Offering::Net { .. } | Offering::Kvp => {
-            before.channels() < 16
-        }
         Offering::Disk {
             blocks: _,
             subs: Some(subs),
@@ -76,6 +73,9 @@ fn has_room(before: &Draft, offering: Offering) -> bool
             blocks: _,
             subs: None,
         } => false,
+        Offering::Plain(spec) => {
+            u64::from(before.channels()) + 1 + u64::from(shape_of(spec).subs) <= 16
+        }
     }
 }
 
@@ -137,13 +137,14 @@ fn spec_of(before: &Draft, device: Option<u32>) -> Option<DeviceSpec>
 fn takes(asked: &Asked, spec: DeviceSpec) -> bool
     ensures { result ≡ takes asked.now spec }
 {
-    match asked {
-        Asked::Beat(_) => matches!(spec, DeviceSpec::Beat),
-        Asked::Down(_) => matches!(spec, DeviceSpec::Down),
-        Asked::Command(_) => matches!(spec, DeviceSpec::Disk { .. }),
-        Asked::Message(_) => matches!(spec, DeviceSpec::Net { .. }),
-        Asked::Pair(_) => matches!(spec, DeviceSpec::Kvp),
-    }
+    matches!(
+        (asked, spec),
+        (Asked::Beat(_), DeviceSpec::Beat)
+            | (Asked::Down(_), DeviceSpec::Down)
+            | (Asked::Command(_), DeviceSpec::Disk { .. })
+            | (Asked::Message(_), DeviceSpec::Net { .. })
+            | (Asked::Pair(_), DeviceSpec::Kvp)
+    )
 }
 
 /// Whether a device can be rescinded: a disk or a network.
@@ -266,8 +267,8 @@ fn offers_in_range(offering: Offering) -> bool
     ensures { result ≡ offers_in_range offering }
 {
     match offering {
-        Offering::Beat | Offering::Down | Offering::Net { .. } | Offering::Kvp => true,
         Offering::Disk { blocks, subs } => blocks.is_some() && within(0, 3, subs).is_some(),
+        Offering::Plain(_) => true,
     }
 }
 

@@ -1,5 +1,5 @@
 //! The requests that lines ask of a disk.
-ghost use Rattle.std.specs.Prelude.{◌≡◌, ◌<◌, ◌≤◌, ◌*◌, ◌^◌, Some, replicate};
+ghost use Rattle.std.specs.Prelude.{◌≡◌, ◌<◌, ◌≤◌, ◌*◌, Some};
 ghost use Rattle.scsi_disk.specs.Commands.{command_of};
 ghost use Rattle.script_lines.specs.Requests.{ten, sixteen, moving, inquiry_cdb, long_capacity_cdb, filled, cdb_of, out_of, request_of, command_said, AskInRange};
 

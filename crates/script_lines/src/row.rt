@@ -1,19 +1,19 @@
 //! The rows of the table of lines.
-ghost use Rattle.std.specs.Prelude.{◌≡◌, ◌<◌, ◌≤◌, ◌^◌, true, [], ◌∷◌, List, length, Option, Some, None, IfSome};
+ghost use Rattle.std.specs.Prelude.{◌≡◌, ◌<◌, ◌≤◌, ◌^◌, true, [], ◌∷◌, Option, Some, None, IfSome};
 ghost use Rattle.std.specs.List.{list_all};
-ghost use Rattle.std.specs.Option.{option_map};
 ghost use Rattle.script_text.specs.Words.{words};
-ghost use Rattle.script_lines.specs.WellFormed.{InRange};
+ghost use Rattle.script_lines.specs.WellFormed.{IsDevice, InRange};
 ghost use Rattle.script_text.specs.Forms.{is_name};
 ghost use Rattle.script_lines.specs.Requests.{AskInRange, IsSent};
-ghost use Rattle.script_lines.specs.Rows.{is_printable, said_in, said_by, begins_comment, row_of, disk_row, net_row, name_alone, name_and_number, name_and_two, contact_row, offer_row, disk_offer, blocks_in, net_offer, bad_row, plain_command, plain_message, query_row, set_row, frame_row, read_row, write_row, ring_row, window_row, beat_row, down_row, held_row, after_in, rescind_row, close_row, modify_row, phase_row};
+ghost use Rattle.script_lines.specs.Rows.{is_printable, said_in, said_by, begins_comment, row_of, disk_row, net_row, name_alone, name_and_number, name_and_two, contact_row, plain_offer, offer_row, disk_offer, blocks_in, net_offer, bad_row, plain_command, plain_message, query_row, set_row, frame_row, read_row, write_row, ring_row, window_row, beat_row, down_row, held_row, after_in, rescind_row, close_row, modify_row, phase_row, pair_row};
 
+use crate::DeviceSpec;
 use crate::asked::Asked;
 use crate::disk_ask::DiskAsk;
 use crate::message::{frame_of, query_of, set_of};
 use crate::offering::Offering;
-use crate::pair_row::pair_row;
 use crate::said::Said;
+use kvp_lines::operation_row;
 use rndis_msg::Rndis;
 use script_text::{
     Name, address_of, are_bytes, byte_of, first_word, is_address, is_byte, is_decimal, is_name,
@@ -206,27 +206,27 @@ fn offer_row(rest: &[u8]) -> Option<Said>
 {
     let (kind, rest) = first_word(rest)?;
     if kind == b"hb".as_slice() {
-        plain_offer(Offering::Beat, rest)
+        plain_offer(DeviceSpec::Beat, rest)
     } else if kind == b"shutdown".as_slice() {
-        plain_offer(Offering::Down, rest)
+        plain_offer(DeviceSpec::Down, rest)
     } else if kind == b"disk".as_slice() {
         disk_offer(rest)
     } else if kind == b"net".as_slice() {
         net_offer(rest)
     } else if kind == b"kvp".as_slice() {
-        plain_offer(Offering::Kvp, rest)
+        plain_offer(DeviceSpec::Kvp, rest)
     } else {
         None
     }
 }
 
-fn plain_offer(offering: Offering, rest: &[u8]) -> Option<Said>
-    requires { InRange (Said.Offer [] offering) }
-    ensures said { result ≡ option_map (λ name. Said.Offer name offering) (name_alone (words rest.now)) }
+fn plain_offer(spec: DeviceSpec, rest: &[u8]) -> Option<Said>
+    requires { IsDevice spec }
+    ensures said { result ≡ plain_offer spec (words rest.now) }
     ensures range { IfSome result InRange }
 {
     let name = name_alone(rest)?;
-    Some(Said::Offer(name, offering))
+    Some(Said::Offer(name, Offering::Plain(spec)))
 }
 
 /// How many blocks a disk has, where it may have so many: 1 to 2^40.
@@ -259,11 +259,11 @@ fn net_of(name: &[u8], mac: &[u8], station: &[u8]) -> Option<Said>
     ensures range { IfSome result InRange }
 {
     if is_name(name) && is_address(mac) && is_address(station) {
-        let offering = Offering::Net {
+        let spec = DeviceSpec::Net {
             mac: address_of(mac),
             station: address_of(station),
         };
-        Some(Said::Offer(Name::of(name), offering))
+        Some(Said::Offer(Name::of(name), Offering::Plain(spec)))
     } else {
         None
     }
@@ -430,6 +430,21 @@ fn frame_row(rest: &[u8]) -> Option<Said>
         None if is_name(name) && are_bytes(frame) => Some(message(name, frame_of(frame))),
         None => None,
         Some(_) => None,
+    }
+}
+
+/// `NAME` and an operation, behind `kvp`.
+fn pair_row(rest: &[u8]) -> Option<Said>
+    ensures said { result ≡ pair_row (words rest.now) }
+    ensures range { IfSome result InRange }
+{
+    let (name, rest) = first_word(rest)?;
+    let (operation, rest) = first_word(rest)?;
+    if is_name(name) {
+        let request = operation_row(operation, rest)?;
+        Some(Said::Request(Name::of(name), Asked::Pair(request)))
+    } else {
+        None
     }
 }
 

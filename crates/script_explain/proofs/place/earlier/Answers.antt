@@ -1,7 +1,6 @@
-use Rattle.std.proofs.Common.{rules, arith, ◌≡◌, ap, ◌∙◌, sym, Bool}
-use Rattle.std.specs.Prelude.{if◌then◌else◌, Option, Some, ℕ}
+use Rattle.std.proofs.Common.{rules, ap, ◌∙◌, sym, Bool}
+use Rattle.std.specs.Prelude.{if◌then◌else◌, Some}
 use Rattle.std.specs.Str.Lines.{lines}
-use Rattle.script_explain.specs.Help.{last_said}
 use Rattle.script_explain.proofs.EarlierLaws.{goes_by}
 use Rattle.script_explain.proofs.place.earlier.Goals as goal
 use Rattle.script_explain.proofs.place.earlier.Goals.{then-says_again, else-says_again}

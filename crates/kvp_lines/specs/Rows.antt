@@ -1,14 +1,11 @@
--- The rows of the table of lines that stand behind kvp.
+-- What stands behind kvp NAME in a line.
 use Rattle.std.specs.Prelude.{ℕ, ◌^◌, ◌-◌, ◌==◌, not, ◌&&◌, nat_le, List, [], ◌∷◌, length, codes, Option, Some, None, option_and_then, if◌then◌else◌}
 use Rattle.std.specs.List.{list_any}
 use Rattle.std.specs.Option.{option_map}
 use Rattle.std.specs.Str.{bytes_eq}
 use Rattle.kvp_ic.specs.declared.message.Kvp.{Kvp}
 use Rattle.kvp_ic.specs.declared.message.Kvp.TheVariants.{Get, Set, Delete, Enum}
-use Rattle.script_lines.specs.declared.asked.Asked.TheVariants.{Pair}
-use Rattle.script_lines.specs.declared.said.Said.{Said}
-use Rattle.script_lines.specs.declared.said.Said.TheVariants.{Request}
-use Rattle.script_text.specs.Forms.{is_name, is_decimal, number_of, in_u64, within}
+use Rattle.script_text.specs.Forms.{is_decimal, number_of, in_u64, within}
 
 -- a word as a text of so many units, one for each of its bytes, where it is one
 abbrev pub text_said : ℕ → ℕ → List ℕ → Option (List ℕ)
@@ -52,8 +49,3 @@ operation_row operation others =
     if bytes_eq operation (codes "get") then key_row Get others else
     if bytes_eq operation (codes "del") then key_row Delete others else
     if bytes_eq operation (codes "enum") then place_row others else None
-
--- NAME and an operation, behind kvp
-abbrev pub pair_row : List (List ℕ) → Option Said
-pair_row (name ∷ operation ∷ others) = if is_name name then option_map (λ request. Request name (Pair request)) (operation_row operation others) else None
-pair_row others = None

@@ -1,6 +1,6 @@
 use Rattle.std.proofs.Common.{◌≡◌, ◌+◌, ◌≤◌, ◌++◌, length, map, take}
-use Rattle.bus_script.specs.Report.{unit_text}
-use Rattle.bus_script.proofs.writing.push_units.Given as goal
+use Rattle.kvp_lines.specs.Replies.{unit_text}
+use Rattle.kvp_lines.proofs.reply.push_units.Given as goal
 
 abbrev pub invariant-loop-i : goal.invariant-loop-i
 invariant-loop-i l = record {

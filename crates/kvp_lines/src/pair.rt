@@ -6,7 +6,7 @@ ghost use Rattle.script_text.specs.Forms.{is_decimal};
 ghost use Rattle.kvp_pool.specs.Pools.{IsText};
 ghost use Rattle.kvp_ic.specs.Messages.{CanBeAsked};
 ghost use Rattle.kvp_ic.specs.declared.message.Kvp.TheVariants.{Get, Delete};
-ghost use Rattle.script_lines.specs.PairRows.{text_said, pool_said, keyed_said, valued_said, placed_said};
+ghost use Rattle.kvp_lines.specs.Rows.{text_said, pool_said, keyed_said, valued_said, placed_said};
 
 use kvp_ic::Kvp;
 use kvp_pool::Units;
@@ -53,7 +53,7 @@ fn text_of<const MIN: usize, const MAX: usize>(word: &[u8]) -> Option<Units<MIN,
 }
 
 /// The number of a pool, 0 to 4.
-fn pool_of(pool: &[u8]) -> Option<u8>
+pub fn pool_of(pool: &[u8]) -> Option<u8>
     requires { is_decimal pool.now ≡ true }
     ensures number { result ≡ pool_said pool.now }
     ensures range { IfSome result (λ p. p ≤ 4) }

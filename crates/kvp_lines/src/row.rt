@@ -1,16 +1,13 @@
-//! The rows of the table of lines that stand behind `kvp`.
+//! What stands behind `kvp NAME` in a line.
 ghost use Rattle.std.specs.Prelude.{◌≡◌, IfSome};
 ghost use Rattle.script_text.specs.Words.{words};
 ghost use Rattle.kvp_ic.specs.Messages.{CanBeAsked};
 ghost use Rattle.kvp_ic.specs.declared.message.Kvp.TheVariants.{Get, Delete};
-ghost use Rattle.script_lines.specs.WellFormed.{InRange};
-ghost use Rattle.script_lines.specs.PairRows.{key_row, value_row, place_row, operation_row, pair_row};
+ghost use Rattle.kvp_lines.specs.Rows.{key_row, value_row, place_row, operation_row};
 
-use crate::asked::Asked;
 use crate::pair::{delete_of, enum_of, get_of, set_of};
-use crate::said::Said;
 use kvp_ic::Kvp;
-use script_text::{Name, first_word, is_decimal, is_name};
+use script_text::{first_word, is_decimal};
 
 /// A get: `POOL KEY`.
 fn get_row(rest: &[u8]) -> Option<Option<Kvp>>
@@ -69,8 +66,8 @@ fn place_row(rest: &[u8]) -> Option<Option<Kvp>>
     }
 }
 
-/// What stands behind each operation.
-fn operation_row(operation: &[u8], rest: &[u8]) -> Option<Option<Kvp>>
+/// What is asked by an operation and the words behind it, or none where they are no row; a request with a value out of range is none.
+pub fn operation_row(operation: &[u8], rest: &[u8]) -> Option<Option<Kvp>>
     ensures said { result ≡ operation_row operation.now (words rest.now) }
     ensures range { IfSome result (λ r. IfSome r CanBeAsked) }
 {
@@ -82,21 +79,6 @@ fn operation_row(operation: &[u8], rest: &[u8]) -> Option<Option<Kvp>>
         delete_row(rest)
     } else if operation == b"enum".as_slice() {
         place_row(rest)
-    } else {
-        None
-    }
-}
-
-/// `NAME` and an operation, behind `kvp`.
-pub fn pair_row(rest: &[u8]) -> Option<Said>
-    ensures said { result ≡ pair_row (words rest.now) }
-    ensures range { IfSome result InRange }
-{
-    let (name, rest) = first_word(rest)?;
-    let (operation, rest) = first_word(rest)?;
-    if is_name(name) {
-        let request = operation_row(operation, rest)?;
-        Some(Said::Request(Name::of(name), Asked::Pair(request)))
     } else {
         None
     }
