@@ -13,12 +13,12 @@ use Rattle.script_text.specs.declared.fault.Why6.{Why6}
 use Rattle.script_text.specs.declared.fault.ScriptFault.{ScriptFault}
 use Rattle.script_text.specs.Forms.{is_name, is_oid, are_bytes, bytes_of, oid_of}
 use Rattle.script_text.specs.Words.{is_word, words}
+use Rattle.kvp_lines.specs.Rows.{operation_row}
 use Rattle.script_lines.specs.declared.line.Line.{Line}
 use Rattle.script_lines.specs.declared.asked.Asked.{Asked}
 use Rattle.script_lines.specs.declared.asked.Asked.TheVariants.{Message}
 use Rattle.script_lines.specs.declared.said.Said.{Said}
 use Rattle.script_lines.specs.declared.said.Said.TheVariants.{Nothing, Request}
-use Rattle.script_lines.specs.PairRows.{operation_row, pair_row}
 use Rattle.script_lines.specs.Rows as rows
 use Rattle.script_lines.specs.Rows.{sized, begins_comment, is_printable, said_in, said_by}
 use Rattle.script_lines.specs.Faults.{device_said, fault_at}
@@ -167,7 +167,7 @@ phase_half : (n : ℕ) (others : List (List ℕ)) → Half n (rows.phase_row oth
 phase_half n [] = omega arith
 phase_half n (a ∷ others) = omega arith
 
-pair_half : (n : ℕ) (others : List (List ℕ)) → Half n (pair_row others)
+pair_half : (n : ℕ) (others : List (List ℕ)) → Half n (rows.pair_row others)
 pair_half n (a ∷ b ∷ others) = half_if n _ _ None (half_map n _ (operation_row b others) (λ request. refl)) (half_none n)
 pair_half n _ = omega arith
 

@@ -1,13 +1,12 @@
 -- Of which kind a device is, and what its model is then.
 use Rattle.std.proofs.Common.{◌≡◌, ◌⊎◌, inl, inr, ◌<◌, ◌^◌, ℕ, Bool, true, Option, Some, None, refl, sym, ap, subst, ◌∙◌}
 use Rattle.contact.specs.declared.kind.DeviceKind.{DeviceKind}
-use Rattle.contact.specs.declared.kind.DeviceKind.TheVariants.{Beat, Down, Disk, Net}
-use Rattle.scsi_disk.specs.declared.reply.DiskReply.{DiskReply}
+use Rattle.contact.specs.declared.kind.DeviceKind.TheVariants.{Beat, Down, Net}
 use Rattle.rndis_msg.specs.declared.rndis.Rndis.{Rndis}
 use Rattle.net_dev.specs.declared.reply.NetReply.{NetReply}
 use Rattle.script_lines.specs.declared.line.Ask.{Ask}
 use Rattle.bus_script.specs.declared.outcome.Reply.{Reply}
-use Rattle.bus_script.specs.declared.outcome.Reply.TheVariants.{Disk as ReplyDisk, Net as ReplyNet}
+use Rattle.bus_script.specs.declared.outcome.Reply.TheVariants.{Net as ReplyNet}
 use Rattle.page_kept.specs.declared.item.Item.{Item}
 use Rattle.channel_model.specs.Lift.{both_hold}
 use Rattle.device_wire.specs.Lifted.{lift_model}
@@ -33,10 +32,6 @@ service_at (inr is) seen of = model_at is seen ∙ ap (λ k. lift_model (ic_mode
 none_fits : {Q R : Type 0} (fits : Q → R → Bool) (q : Option Q) {X : Type 0} → both_hold fits q None ≡ true → X
 none_fits fits None h = absurd (cc)
 none_fits fits (Some q) h = absurd (cc)
-
-pub fits_disk : (kind : DeviceKind) (q : Ask) (r : DiskReply) → fits_on kind q (ReplyDisk r) ≡ true → kind ≡ Disk
-fits_disk Disk q r h = refl
-fits_disk _ q r h = none_fits _ _ h
 
 fits_net : (kind : DeviceKind) (q : Ask) (status : ℕ) (back : Option Rndis) → fits_on kind q (ReplyNet status back) ≡ true → kind ≡ Net
 fits_net Net q status back h = refl

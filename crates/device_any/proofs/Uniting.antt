@@ -1,25 +1,26 @@
 -- A device behind the seats that it had in a phase.
-use Rattle.std.proofs.Common.{◌≡◌, ℕ, suc, ◌+◌, Bool, true, false, cond, List, [], ◌∷◌, length, Some, None, ap, sym, ◌∙◌, subst, refl, arith, slice_get}
+use Rattle.std.proofs.Common.{◌≡◌, ℕ, suc, ◌+◌, Bool, true, false, cond, List, [], ◌∷◌, length, Option, Some, None, is_some, ap, sym, ◌∙◌, subst, refl, arith, slice_get}
 use Rattle.std.specs.Prelude.{map}
 use Rattle.std.proofs.lemmas.List.{append-nil}
 use Rattle.contact.specs.declared.kind.DeviceKind.{DeviceKind}
 use Rattle.device_kinds.specs.Logs.{Grows, log_by, served_by}
 use Rattle.script_lines.specs.Parts.{kind_of}
+use Rattle.script_phases.specs.Openings.{subs_of}
 use Rattle.hist_lock.specs.Calls.{Closes}
 use Rattle.hist_lock.specs.History.{entries_of}
 use Rattle.hist_lock.specs.Seat.{Lock, Seat, AreNew, AreFrom, AreAll, IsSame}
 use Rattle.hist_lock.specs.declared.history.Entry.{Entry}
 use Rattle.hist_lock.proofs.Rows.{new_all}
-use Rattle.device_any.specs.Boxes.{subs_in, AreSeatsBy, CanUniteBox, ComesBack, EachWith, GoesOn, IsKept, IsKeptBy, IsOpen, UnitesBox, UnitesBy, Working, box_log, is_open, kind_in, seats_in, spec_of}
+use Rattle.device_any.specs.Boxes.{subs_in, AreSeatsBy, CanUniteBox, ComesBack, EachWith, GoesOn, IsKept, IsKeptBy, IsOpen, Opened, UnitesBox, UnitesBy, UnitesWith, Working, box_log, is_open, kind_in, opened, opened_by, opened_disk, seats_in, spec_of}
 use Rattle.device_any.specs.MachineBoxes.{CanUnite, is_shared, own_seats, past_in, state_in}
 use Rattle.device_any.specs.Seats.{IsSameSeat, served_at}
 use Rattle.device_any.specs.declared.device_box.DeviceBox.{DeviceBox}
-use Rattle.device_any.specs.declared.device_box.DeviceBox.TheVariants.{Beat as BeatBox, Down as DownBox, Disk as DiskBox, Net as NetBox, Kvp as KvpBox}
+use Rattle.device_any.specs.declared.device_box.DeviceBox.TheVariants.{Beat as BeatBox, Disk as DiskBox}
 use Rattle.device_any.specs.declared.device_seat.DeviceSeat.{DeviceSeat}
 use Rattle.device_any.specs.declared.machine_box.MachineBox.{MachineBox}
 use Rattle.device_any.specs.declared.machine_box.MachineBox.TheVariants.{Whole, Shared, Empty}
 use Rattle.device_any.proofs.ManySeats.{grows_all}
-use Rattle.device_any.proofs.SeatLaws.{IsSeating, Opened, boxed, can_is, kept_is, log_is, open_is, opened, opened_by, opened_disk, same_setup, same_spec, seating, seats_are, seats_for, setup_is, spec_is}
+use Rattle.device_any.proofs.SeatLaws.{IsSeating, boxed, parts, same_setup, same_spec, seating}
 
 -- seats of one lock, after their calls
 
@@ -135,50 +136,67 @@ whole_here w _ kept = absurd kept
 
 -- by how its machine works
 kept_by : (box : DeviceBox) → IsKept box → IsKeptBy (opened box).w (opened box).own
-kept_by box = subst (λ X. X) (kept_is box)
+kept_by box = subst (λ y. y.Kept) (parts box)
 
 -- no seat of it stands here
 pub kept_here : (box : DeviceBox) → IsKept box → (kind_in box ≡ None) × (seats_in box ≡ [])
 kept_here box kept =
     let here = whole_here (opened box).w (opened box).own (kept_by box kept) in
-    (ap (λ b. cond b (Some (kind_of (spec_of box))) None) (open_is box ∙ here.0), seats_are box ∙ ap (map (opened box).w.seat) here.1)
+    (ap (λ b. cond b (Some (kind_of (spec_of box))) None) (ap (λ y. y.is_open) (parts box) ∙ here.0), ap (λ y. y.seats) (parts box) ∙ ap (map (opened box).w.seat) here.1)
 
 pub can_kept : (box : DeviceBox) → IsKept box → CanUniteBox box
-can_kept box kept = subst (λ X. X) (sym (can_is box)) (can_whole (opened box).w (opened box).own (kept_by box kept))
+can_kept box kept = subst (λ y. y.CanUnite) (sym (parts box)) (can_whole (opened box).w (opened box).own (kept_by box kept))
 
--- a device of the same kind, with as many channels: its machine works as that of the other one
+-- in a device of the same kind the machine of this kind is found; with as many channels it is the device of that machine
+
+-- says nothing where no such machine is found
+Tells : (z : Opened) → DeviceBox → Option (MachineBox z.S z.Q z.A) → Type 1
+Tells z box None = subs_in box ≡ subs_of z.spec → opened box ≡ opened box
+Tells z box (Some own) = subs_in box ≡ subs_of z.spec → opened box ≡ opened_by z.w z.box z.spec_by z.setup_by own
+
+found_is : (old box : DeviceBox) → Tells (opened old) box ((opened old).w.found box)
+unfolding Tells
+found_is (DiskBox subs old) (DiskBox subs' own) = λ same. ap (λ n. opened_disk n own) same
+found_is _ (BeatBox own) = λ same. refl
+found_is _ _ = λ same. refl
+
+is_found : (old held : DeviceBox) → kind_of (spec_of held) ≡ kind_of (spec_of old) → is_some ((opened old).w.found held) ≡ false → ⊥
+is_found (BeatBox old) (BeatBox held) kinds none = absurd (cc (none))
+is_found _ (BeatBox held) kinds none = absurd (cc)
+is_found _ _ kinds none = absurd (first_of (cc (kinds), cc (none)))
+
 record Also (z : Opened) (box : DeviceBox) : Type 1 where
   pub own : MachineBox z.S z.Q z.A
-  pub is : opened box ≡ opened_by z.w z.box z.spec z.setup own
+  pub is : opened box ≡ opened_by z.w z.box z.spec_by z.setup_by own
 
 also : (old held : DeviceBox) → kind_of (spec_of held) ≡ kind_of (spec_of old) → subs_in held ≡ subs_in old → Also (opened old) held
-also (BeatBox old) (BeatBox held) kinds same = record { own = held; is = refl }
-also (DownBox old) (DownBox held) kinds same = record { own = held; is = refl }
-also (DiskBox subs old) (DiskBox subs' held) kinds same = record { own = held; is = ap (λ n. opened_disk n held) same }
-also (NetBox old) (NetBox held) kinds same = record { own = held; is = refl }
-also (KvpBox old) (KvpBox held) kinds same = record { own = held; is = refl }
-also _ _ kinds same = absurd (cc (kinds))
+unfolding Tells
+also old held kinds same = by_option ((opened old).w.found held) (is_found old held kinds) (found_is old held)
+  where
+    by_option : (found : Option (MachineBox (opened old).S (opened old).Q (opened old).A)) → (is_some found ≡ false → ⊥) → Tells (opened old) held found → Also (opened old) held
+    by_option (Some own) some tells = record { own = own; is = tells same }
+    by_option None some tells = absurd (some refl)
 
 -- the same device, made whole
 record Later (z : Opened) (new : DeviceBox) : Type 1 where
   pub own : MachineBox z.S z.Q z.A
-  pub is : opened new ≡ opened_by z.w z.box z.spec z.setup own
+  pub is : opened new ≡ opened_by z.w z.box z.spec_by z.setup_by own
   pub unites : UnitesBy z.w z.own own
 
 later : (old new : DeviceBox) → UnitesBox old new → Later (opened old) new
-later (BeatBox old) (BeatBox new) unites = record { own = new; is = refl; unites = unites }
-later (DownBox old) (DownBox new) unites = record { own = new; is = refl; unites = unites }
-later (DiskBox subs old) (DiskBox subs' new) unites = record { own = new; is = ap (λ n. opened_disk n new) unites.0; unites = unites.1 }
-later (NetBox old) (NetBox new) unites = record { own = new; is = refl; unites = unites }
-later (KvpBox old) (KvpBox new) unites = record { own = new; is = refl; unites = unites }
-later _ _ unites = absurd unites
+unfolding Tells
+later old new unites = by_option ((opened old).w.found new) (subst (λ y. y.Unites new) (parts old) unites.1) (found_is old new)
+  where
+    by_option : (found : Option (MachineBox (opened old).S (opened old).Q (opened old).A)) → UnitesWith (opened old).w (opened old).own found → Tells (opened old) new found → Later (opened old) new
+    by_option (Some own) united tells = record { own = own; is = tells unites.0; unites = united }
+    by_option None united tells = absurd united
 
 kept_stays : (old new : DeviceBox) → IsKept old → UnitesBox old new → (new ≡ old) × (seats_in old ≡ [])
 kept_stays old new kept unites =
     let z = opened old in
     let l = later old new unites in
     let stays = whole_stays z.w z.own l.own (kept_by old kept) l.unites in
-    (sym (boxed new) ∙ (ap (λ y. y.box y.own) l.is ∙ (ap z.box stays.0 ∙ boxed old)), seats_are old ∙ ap (map z.w.seat) stays.1)
+    (sym (boxed new) ∙ (ap (λ y. y.box y.own) l.is ∙ (ap z.box stays.0 ∙ boxed old)), ap (λ y. y.seats) (parts old) ∙ ap (map z.w.seat) stays.1)
 
 -- a device that its channels have
 
@@ -192,18 +210,14 @@ kind_opened box kind is = (if_open (is_open box) (kind_of (spec_of box)) kind is
 pub is_opened : (box : DeviceBox) (kind : DeviceKind) → kind_in box ≡ Some kind → IsOpen box
 is_opened box kind is = (if_open (is_open box) (kind_of (spec_of box)) kind is).1
 
--- the seats that came back, by how the machine works
-came_back : (given : List DeviceSeat) (held : DeviceBox) (y : Opened) → opened held ≡ y → EachWith IsSameSeat given (seats_in held) → EachWith IsSameSeat given (map y.w.seat (own_seats y.own))
-came_back given held y is each = subst (λ x. EachWith IsSameSeat given (map x.w.seat (own_seats x.own))) is (subst (EachWith IsSameSeat given) (seats_are held) each)
-
 -- a device whose seats all came back can be made whole
 pub can_unite : (old : DeviceBox) (quotas : List ℕ) (given : List DeviceSeat) (held : DeviceBox) → ComesBack old quotas given held → CanUniteBox held
 can_unite old [] given held back = subst CanUniteBox (sym back.0) (can_kept old back.1)
 can_unite old (q ∷ quotas) given held back =
     let z = opened old in
     let a = also old held back.0 back.1 in
-    let new = subst (λ X. X) (seats_for old (q ∷ quotas) given) back.2 in
-    subst (λ X. X) (sym (can_is held)) (subst (λ y. CanUnite y.own) (sym a.is) (can_by z.w (seating old) q quotas given z.own a.own new (came_back given held _ a.is back.3)))
+    let new = subst (λ y. y.SeatsFor (q ∷ quotas) given) (parts old) back.2 in
+    subst (λ y. y.CanUnite) (sym a.is) (can_by z.w (seating old) q quotas given z.own a.own new (subst (λ y. EachWith IsSameSeat given y.seats) a.is back.3))
 
 -- and its history went on
 pub goes_on : (old : DeviceBox) (quotas : List ℕ) (given : List DeviceSeat) (held new : DeviceBox) → ComesBack old quotas given held → UnitesBox held new → GoesOn old new (map served_at (seats_in held))
@@ -215,14 +229,14 @@ goes_on old (q ∷ quotas) given held new back unites =
     let z = opened old in
     let a = also old held back.0 back.1 in
     let l = subst (λ y. Later y new) a.is (later held new unites) in
-    let seats = subst (λ X. X) (seats_for old (q ∷ quotas) given) back.2 in
-    let again = again_by z.w (seating old) q quotas given z.own a.own l.own seats (came_back given held _ a.is back.3) l.unites in
-    let before : box_log old ≡ log_by z.w.calls (past_in z.own) = log_is old in
-    let after : box_log new ≡ log_by z.w.calls (past_in l.own) = log_is new ∙ ap (λ y. log_by y.w.calls (past_in y.own)) l.is in
-    let came : seats_in held ≡ map z.w.seat (own_seats a.own) = seats_are held ∙ ap (λ y. map y.w.seat (own_seats y.own)) a.is in
+    let seats = subst (λ y. y.SeatsFor (q ∷ quotas) given) (parts old) back.2 in
+    let again = again_by z.w (seating old) q quotas given z.own a.own l.own seats (subst (λ y. EachWith IsSameSeat given y.seats) a.is back.3) l.unites in
+    let before : box_log old ≡ log_by z.w.calls (past_in z.own) = ap (λ y. y.log) (parts old) in
+    let after : box_log new ≡ log_by z.w.calls (past_in l.own) = ap (λ y. y.log) l.is in
+    let came : seats_in held ≡ map z.w.seat (own_seats a.own) = ap (λ y. y.seats) a.is in
     record {
       grows = rw (before, after, came) again.grows;
-      spec = spec_is new ∙ (ap (λ y. y.spec (state_in y.own)) l.is ∙ (ap z.spec again.is_in ∙ (same_spec old again.is again.was again.setup ∙ (ap z.spec (sym again.was_in) ∙ sym (spec_is old)))));
-      setup = setup_is new ∙ (ap (λ y. y.setup (state_in y.own)) l.is ∙ (ap z.setup again.is_in ∙ (same_setup old again.is again.was again.setup ∙ (ap z.setup (sym again.was_in) ∙ sym (setup_is old)))));
-      kept = subst (λ X. X) (sym (kept_is new)) (subst (λ y. IsKeptBy y.w y.own) (sym l.is) again.kept);
+      spec = ap (λ y. y.spec) l.is ∙ (ap z.spec_by again.is_in ∙ (same_spec old again.is again.was again.setup ∙ (ap z.spec_by (sym again.was_in) ∙ sym (ap (λ y. y.spec) (parts old)))));
+      setup = ap (λ y. y.setup) l.is ∙ (ap z.setup_by again.is_in ∙ (same_setup old again.is again.was again.setup ∙ (ap z.setup_by (sym again.was_in) ∙ sym (ap (λ y. y.setup) (parts old)))));
+      kept = subst (λ y. y.Kept) (sym l.is) again.kept;
     }

@@ -1,7 +1,7 @@
 -- The seat of a device at its channel.
 use Rattle.std.specs.Prelude.{ℕ, ◌≡◌, List, Result}
 use Rattle.device_kinds.specs.Served.{Served}
-use Rattle.device_kinds.specs.Logs.{ic_calls, disk_calls, net_calls, kvp_calls, served_by}
+use Rattle.device_kinds.specs.Logs.{Logged, ic_calls, disk_calls, net_calls, kvp_calls, served_by}
 use Rattle.contact.specs.declared.kind.DeviceKind.{DeviceKind}
 use Rattle.contact.specs.declared.kind.DeviceKind.TheVariants.{Beat as KindBeat, Down as KindDown, Disk as KindDisk, Net as KindNet, Kvp as KindKvp}
 use Rattle.hist_lock.specs.Seat.{Lock, Seat}
@@ -22,30 +22,6 @@ use Rattle.util_ic.specs.declared.ic.IcAnswer.{IcAnswer}
 use Rattle.device_any.specs.declared.device_seat.DeviceSeat.{DeviceSeat}
 use Rattle.device_any.specs.declared.device_seat.DeviceSeat.TheVariants.{Beat, Down, Disk, Net, Kvp}
 
--- what a seat served
-abbrev pub served_at : DeviceSeat → List Served
-served_at (Beat s) = served_by ic_calls s.calls
-served_at (Down s) = served_by ic_calls s.calls
-served_at (Disk s) = served_by disk_calls s.calls
-served_at (Net s) = served_by net_calls s.calls
-served_at (Kvp s) = served_by kvp_calls s.calls
-
--- the kind of its device
-abbrev pub kind_at : DeviceSeat → DeviceKind
-kind_at (Beat s) = KindBeat
-kind_at (Down s) = KindDown
-kind_at (Disk s) = KindDisk
-kind_at (Net s) = KindNet
-kind_at (Kvp s) = KindKvp
-
--- how many calls it may still make
-abbrev pub left_at : DeviceSeat → ℕ
-left_at (Beat s) = s.left
-left_at (Down s) = s.left
-left_at (Disk s) = s.left
-left_at (Net s) = s.left
-left_at (Kvp s) = s.left
-
 -- what a seat of a lock keeps
 pub record Place (S Q A : Type 0) : Type 0 where
   pub lock : Lock S Q A
@@ -62,12 +38,34 @@ pub data DevicePlace : Type 0 where
   NetPlace : Place Station (Result Rndis RndisFault) NetReply → DevicePlace
   KvpPlace : Place (List Pairs) Message KvpReply → DevicePlace
 
+-- what is told of a seat: the kind of its device, its place, what it served, and how many calls it may still make
+pub record Sitting : Type 0 where
+  pub kind : DeviceKind
+  pub place : DevicePlace
+  pub served : List Served
+  pub left : ℕ
+
+abbrev pub sitting_by : {S Q A : Type 0} → DeviceKind → (Place S Q A → DevicePlace) → Logged Q A → Seat S Q A → Sitting
+sitting_by kind place calls s = record { kind = kind; place = place (place_of s); served = served_by calls s.calls; left = s.left }
+
+abbrev pub sitting : DeviceSeat → Sitting
+sitting (Beat s) = sitting_by KindBeat BeatPlace ic_calls s
+sitting (Down s) = sitting_by KindDown DownPlace ic_calls s
+sitting (Disk s) = sitting_by KindDisk DiskPlace disk_calls s
+sitting (Net s) = sitting_by KindNet NetPlace net_calls s
+sitting (Kvp s) = sitting_by KindKvp KvpPlace kvp_calls s
+
+abbrev pub kind_at : DeviceSeat → DeviceKind
+kind_at s = (sitting s).kind
+
 abbrev pub device_place : DeviceSeat → DevicePlace
-device_place (Beat s) = BeatPlace (place_of s)
-device_place (Down s) = DownPlace (place_of s)
-device_place (Disk s) = DiskPlace (place_of s)
-device_place (Net s) = NetPlace (place_of s)
-device_place (Kvp s) = KvpPlace (place_of s)
+device_place s = (sitting s).place
+
+abbrev pub served_at : DeviceSeat → List Served
+served_at s = (sitting s).served
+
+abbrev pub left_at : DeviceSeat → ℕ
+left_at s = (sitting s).left
 
 -- a later state of the same seat
 abbrev pub IsSameSeat : DeviceSeat → DeviceSeat → Type 0

@@ -1,9 +1,5 @@
 //! The wire of a device of any kind.
 ghost use Rattle.std.specs.Prelude.{◌≡◌};
-ghost use Rattle.channel_model.specs.Lift.{or_else};
-ghost use Rattle.disk_format.specs.declared.disk_step.DiskStep.TheVariants.{Begin as BeginStep};
-ghost use Rattle.net_format.specs.declared.net_step.NetStep.TheVariants.{Init as InitStep};
-ghost use Rattle.device_kinds.specs.Kinds.{disks, nets};
 
 use crate::{DeviceAnswer, DeviceHead};
 use bus_script::{Ask, Reply};
@@ -48,30 +44,57 @@ impl DeviceWire {
     }
 }
 
-// What comes of a kind's own wire, as it is, or as a case of what comes of those of all kinds. An arm that gives a reply returns by itself, so that this is not moved
-// through the value of the `match`.
+// What is done with a kind's own wire: with no more; with what the kind has in a value of all kinds, or with the step that it has there, where that of another kind counts as the first one;
+// with the reply that is answered, where an adapter's is told by its status; and what comes of it as a case of what comes of those of all kinds. An arm that gives a reply returns by
+// itself, so that this is not moved through the value of the `match`.
 macro_rules! on_wire {
-    (same, $case:ident, $own:expr, $wire:ident, $call:expr) => {{
+    (same, $case:ident, $own:expr, $first:expr, $wire:ident, $call:expr) => {{
         let $wire = $own;
         $call
     }};
-    ((Some $all:ident), $case:ident, $own:expr, $wire:ident, $call:expr) => {{
+    ((of $all:ident $value:expr, $part:ident, $how:tt), $case:ident, $own:expr, $first:expr, $wire:ident, $call:expr) => {{
+        let $all::$case($part) = $value else {
+            unreachable!()
+        };
+        on_wire!($how, $case, $own, $first, $wire, $call)
+    }};
+    ((step $value:expr, $part:ident), $case:ident, $own:expr, $first:expr, $wire:ident, $call:expr) => {{
+        let step = match $value {
+            DeviceStep::$case(step) => *step,
+            _ => $first,
+        };
+        let $part = &step;
+        on_wire!(same, $case, $own, $first, $wire, $call)
+    }};
+    ((answer $head:expr, $part:ident, $reply:expr, $told:ident, $status:ident => $done:expr), Net, $own:expr, $first:expr, $wire:ident, $call:expr) => {{
+        let Reply::Net {
+            status: $status, ..
+        } = $reply
+        else {
+            unreachable!()
+        };
+        $done
+    }};
+    ((answer $head:expr, $part:ident, $reply:expr, $told:ident, $status:ident => $done:expr), $case:ident, $own:expr, $first:expr, $wire:ident, $call:expr) => {
+        on_wire!((of DeviceHead $head, $part, (of Reply $reply, $told, same)), $case, $own, $first, $wire, $call)
+    };
+    ((Some $all:ident), $case:ident, $own:expr, $first:expr, $wire:ident, $call:expr) => {{
         let $wire = $own;
         match $call {
             Some(own) => Some($all::$case(own)),
             None => None,
         }
     }};
-    (reply, Net, $own:expr, $wire:ident, $call:expr) => {{
+    (reply, Net, $own:expr, $first:expr, $wire:ident, $call:expr) => {{
         let $wire = $own;
         let NetReply { status, back } = $call;
         return Reply::Net { status, back };
     }};
-    (reply, $case:ident, $own:expr, $wire:ident, $call:expr) => {{
+    (reply, $case:ident, $own:expr, $first:expr, $wire:ident, $call:expr) => {{
         let $wire = $own;
         return Reply::$case($call);
     }};
-    ($all:ident, $case:ident, $own:expr, $wire:ident, $call:expr) => {{
+    ($all:ident, $case:ident, $own:expr, $first:expr, $wire:ident, $call:expr) => {{
         let $wire = $own;
         $all::$case($call)
     }};
@@ -81,44 +104,14 @@ macro_rules! on_wire {
 macro_rules! own_wire {
     ($kind:expr, $how:tt, $wire:ident => $call:expr) => {
         match $kind {
-            DeviceKind::Beat | DeviceKind::Down => on_wire!($how, Ic, IcWire::of($kind), $wire, $call),
-            DeviceKind::Disk => on_wire!($how, Disk, DiskWire, $wire, $call),
-            DeviceKind::Net => on_wire!($how, Net, NetWire, $wire, $call),
-            DeviceKind::Kvp => on_wire!($how, Kvp, KvpWire, $wire, $call),
+            DeviceKind::Beat | DeviceKind::Down => {
+                on_wire!($how, Ic, IcWire::of($kind), IcStep::Negotiate, $wire, $call)
+            }
+            DeviceKind::Disk => on_wire!($how, Disk, DiskWire, DiskStep::Begin, $wire, $call),
+            DeviceKind::Net => on_wire!($how, Net, NetWire, NetStep::Init, $wire, $call),
+            DeviceKind::Kvp => on_wire!($how, Kvp, KvpWire, KvpStep::Negotiate, $wire, $call),
         }
     };
-}
-
-// What is done with the wire of the kind that a value is of, and with what that kind has in it.
-macro_rules! own_case {
-    ($kind:expr, $all:ident, $value:expr, $how:tt, $wire:ident, $own:ident => $call:expr) => {
-        match $value {
-            $all::Ic($own) => on_wire!($how, Ic, IcWire::of($kind), $wire, $call),
-            $all::Disk($own) => on_wire!($how, Disk, DiskWire, $wire, $call),
-            $all::Net($own) => on_wire!($how, Net, NetWire, $wire, $call),
-            $all::Kvp($own) => on_wire!($how, Kvp, KvpWire, $wire, $call),
-        }
-    };
-}
-
-/// The step of a disk's start-up. That of another kind counts as the first one.
-fn disk_step(step: &DeviceStep) -> DiskStep
-    ensures { result ≡ or_else BeginStep (disks.own_step step.now) }
-{
-    match step {
-        DeviceStep::Disk(step) => *step,
-        _ => DiskStep::Begin,
-    }
-}
-
-/// The step of a network's start-up. That of another kind counts as the first one.
-fn net_step(step: &DeviceStep) -> NetStep
-    ensures { result ≡ or_else InitStep (nets.own_step step.now) }
-{
-    match step {
-        DeviceStep::Net(step) => *step,
-        _ => NetStep::Init,
-    }
 }
 
 impl Wire for DeviceWire {
@@ -170,29 +163,15 @@ impl Wire for DeviceWire {
     }
 
     fn is_answered(&self, step: &DeviceStep) -> bool {
-        match self.kind {
-            DeviceKind::Beat | DeviceKind::Down => {
-                IcWire::of(self.kind).is_answered(&IcStep::Negotiate)
-            }
-            DeviceKind::Disk => DiskWire.is_answered(&disk_step(step)),
-            DeviceKind::Net => NetWire.is_answered(&net_step(step)),
-            DeviceKind::Kvp => KvpWire.is_answered(&KvpStep::Negotiate),
-        }
+        own_wire!(self.kind, (step step, own), wire => wire.is_answered(own))
     }
 
     fn write_step(&self, step: &DeviceStep, id: u64, out: &mut [u64], page: &mut [u64]) -> Written {
-        match self.kind {
-            DeviceKind::Beat | DeviceKind::Down => {
-                IcWire::of(self.kind).write_step(&IcStep::Negotiate, id, out, page)
-            }
-            DeviceKind::Disk => DiskWire.write_step(&disk_step(step), id, out, page),
-            DeviceKind::Net => NetWire.write_step(&net_step(step), id, out, page),
-            DeviceKind::Kvp => KvpWire.write_step(&KvpStep::Negotiate, id, out, page),
-        }
+        own_wire!(self.kind, (step step, own), wire => wire.write_step(own, id, out, page))
     }
 
     fn write_request(&self, ask: &Ask, id: u64, out: &mut [u64], page: &mut [u64]) -> Written {
-        own_case!(self.kind, Ask, ask, same, wire, own => wire.write_request(own, id, out, page))
+        own_wire!(self.kind, (of Ask ask, own, same), wire => wire.write_request(own, id, out, page))
     }
 
     fn is_waiting(&self, packet: &[u64]) -> bool {
@@ -220,7 +199,7 @@ impl Wire for DeviceWire {
     }
 
     fn read(&self, packet: &[u64], words: &[u64], head: &DeviceHead) -> Ask {
-        own_case!(self.kind, DeviceHead, head, Ask, wire, own => wire.read(packet, words, own))
+        own_wire!(self.kind, (of DeviceHead head, own, Ask), wire => wire.read(packet, words, own))
     }
 
     fn has_fixed_message(&self, packet: &[u64], words: &[u64]) -> bool {
@@ -274,21 +253,7 @@ impl Wire for DeviceWire {
         out: &mut [u64],
         page: &mut [u64],
     ) -> Written {
-        match (head, reply) {
-            (DeviceHead::Ic(head), Reply::Ic(reply)) => {
-                IcWire::of(self.kind).write_answer(packet, words, head, reply, out, page)
-            }
-            (DeviceHead::Disk(head), Reply::Disk(reply)) => {
-                DiskWire.write_answer(packet, words, head, reply, out, page)
-            }
-            (DeviceHead::Net(_), Reply::Net { status, .. }) => {
-                Written::bare(write_done(packet[1], *status, out))
-            }
-            (DeviceHead::Kvp(head), Reply::Kvp(reply)) => {
-                KvpWire.write_answer(packet, words, head, reply, out, page)
-            }
-            _ => unreachable!(),
-        }
+        own_wire!(self.kind, (answer head, own, reply, told, status => Written::bare(write_done(packet[1], *status, out))), wire => wire.write_answer(packet, words, own, told, out, page))
     }
 
     fn answer_head(
@@ -309,6 +274,6 @@ impl Wire for DeviceWire {
         words: &[u64],
         head: &DeviceAnswer,
     ) -> Reply {
-        own_case!(self.kind, DeviceAnswer, head, reply, wire, own => wire.reply(before, before_words, packet, words, own))
+        own_wire!(self.kind, (of DeviceAnswer head, own, reply), wire => wire.reply(before, before_words, packet, words, own))
     }
 }

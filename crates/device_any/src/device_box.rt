@@ -67,6 +67,13 @@ macro_rules! each_box {
     };
 }
 
+// A device with a new machine.
+macro_rules! new_box {
+    ($alloc:expr, $case:ident, $machine:expr) => {
+        Ok(DeviceBox::$case(MachineBox::make($alloc, $machine)?))
+    };
+}
+
 impl DeviceBox {
     /// A new device. A disk is all zero, and can't read these places.
     pub fn make(alloc: Global, spec: DeviceSpec, bad: &[u64]) -> Result<DeviceBox, AllocError>
@@ -75,20 +82,14 @@ impl DeviceBox {
         ensures { IfOk result (IsFresh spec bad.now) }
     {
         match spec {
-            DeviceSpec::Beat => Ok(DeviceBox::Beat(MachineBox::make(alloc, BeatMachine::make())?)),
-            DeviceSpec::Down => Ok(DeviceBox::Down(MachineBox::make(alloc, DownMachine::make())?)),
+            DeviceSpec::Beat => new_box!(alloc, Beat, BeatMachine::make()),
+            DeviceSpec::Down => new_box!(alloc, Down, DownMachine::make()),
             DeviceSpec::Disk { blocks, subs } => {
                 let disk = MachineBox::make(alloc, Disk::make(alloc, blocks, bad)?)?;
                 Ok(DeviceBox::Disk { subs, disk })
             }
-            DeviceSpec::Net { mac, station } => Ok(DeviceBox::Net(MachineBox::make(
-                alloc,
-                Station::make(mac, station),
-            )?)),
-            DeviceSpec::Kvp => Ok(DeviceBox::Kvp(MachineBox::make(
-                alloc,
-                KvpMachine::make(alloc)?,
-            )?)),
+            DeviceSpec::Net { mac, station } => new_box!(alloc, Net, Station::make(mac, station)),
+            DeviceSpec::Kvp => new_box!(alloc, Kvp, KvpMachine::make(alloc)?),
         }
     }
 

@@ -23,9 +23,24 @@ pub enum DeviceSeat {
     Kvp(HistSeat<KvpMachine>),
 }
 
-// A call of a seat with the request of its kind, which is the case of this name. It returns by itself, so that a reply is not moved through the value of a `match`.
-macro_rules! serve {
-    ($seat:ident, $rt:expr, $request:expr, $case:ident) => {{
+// What is done with a seat: its kind is told, or how many calls it has left; or it is called with the request of its kind, which is the case of this name. A call returns by itself, so that a reply is
+// not moved through the value of a `match`.
+macro_rules! on_seat {
+    (kind, $kind:ident, $case:ident, $seat:ident) => {
+        DeviceKind::$kind
+    };
+    (left, $kind:ident, $case:ident, $seat:ident) => {
+        $seat.left()
+    };
+    ((call $rt:expr, $request:expr), Net, Net, $seat:ident) => {{
+        let Ask::Net(message) = $request else {
+            unreachable!()
+        };
+        let receipt = $seat.with($rt, Ok(message));
+        let NetReply { status, back } = receipt.reply;
+        return (receipt.serial, Reply::Net { status, back });
+    }};
+    ((call $rt:expr, $request:expr), $kind:ident, $case:ident, $seat:ident) => {{
         let Ask::$case(own) = $request else {
             unreachable!()
         };
@@ -34,18 +49,25 @@ macro_rules! serve {
     }};
 }
 
+// What is done with a seat, whatever its kind.
+macro_rules! each_seat {
+    ($seat:expr, $how:tt) => {
+        match $seat {
+            DeviceSeat::Beat(seat) => on_seat!($how, Beat, Ic, seat),
+            DeviceSeat::Down(seat) => on_seat!($how, Down, Ic, seat),
+            DeviceSeat::Disk(seat) => on_seat!($how, Disk, Disk, seat),
+            DeviceSeat::Net(seat) => on_seat!($how, Net, Net, seat),
+            DeviceSeat::Kvp(seat) => on_seat!($how, Kvp, Kvp, seat),
+        }
+    };
+}
+
 impl DeviceSeat {
     /// The kind of the seat's device.
     pub fn kind(&self) -> DeviceKind
         ensures { result ≡ kind_at self.now }
     {
-        match self {
-            DeviceSeat::Beat(_) => DeviceKind::Beat,
-            DeviceSeat::Down(_) => DeviceKind::Down,
-            DeviceSeat::Disk(_) => DeviceKind::Disk,
-            DeviceSeat::Net(_) => DeviceKind::Net,
-            DeviceSeat::Kvp(_) => DeviceKind::Kvp,
-        }
+        each_seat!(self, kind)
     }
 }
 
@@ -67,29 +89,10 @@ impl Device<DeviceProtocol> for DeviceSeat {
     ghost same_trans = { λ s t u p q. q ∙ p };
 
     fn left(&self) -> u32 {
-        match self {
-            DeviceSeat::Beat(seat) => seat.left(),
-            DeviceSeat::Down(seat) => seat.left(),
-            DeviceSeat::Disk(seat) => seat.left(),
-            DeviceSeat::Net(seat) => seat.left(),
-            DeviceSeat::Kvp(seat) => seat.left(),
-        }
+        each_seat!(self, left)
     }
 
     fn call<R: Wait>(&mut self, rt: &R, _protocol: &DeviceProtocol, request: Ask) -> (u32, Reply) {
-        match self {
-            DeviceSeat::Beat(seat) => serve!(seat, rt, request, Ic),
-            DeviceSeat::Down(seat) => serve!(seat, rt, request, Ic),
-            DeviceSeat::Disk(seat) => serve!(seat, rt, request, Disk),
-            DeviceSeat::Net(seat) => {
-                let Ask::Net(message) = request else {
-                    unreachable!()
-                };
-                let receipt = seat.with(rt, Ok(message));
-                let NetReply { status, back } = receipt.reply;
-                return (receipt.serial, Reply::Net { status, back });
-            }
-            DeviceSeat::Kvp(seat) => serve!(seat, rt, request, Kvp),
-        }
+        each_seat!(self, (call rt, request))
     }
 }

@@ -13,9 +13,6 @@ use Rattle.rndis_msg.specs.declared.rndis.Rndis.{Rndis}
 use Rattle.rndis_msg.specs.declared.rndis.Rndis.TheVariants.{Packet, Query, Set, Reset, Keepalive}
 use Rattle.net_dev.specs.declared.reply.NetReply.{NetReply}
 use Rattle.net_dev.specs.Station.{Keeps as StationKeeps}
-use Rattle.kvp_ic.specs.declared.message.Kvp.{Kvp as Message}
-use Rattle.kvp_ic.specs.declared.message.KvpReply.{KvpReply}
-use Rattle.kvp_ic.specs.Machine.{IsReplyTo}
 use Rattle.kvp_ic.specs.Messages.{CanBeAsked}
 use Rattle.script_lines.specs.Requests.{IsSent}
 use Rattle.script_lines.specs.declared.line.Ask.{Ask}
@@ -43,7 +40,7 @@ use Rattle.net_format.proofs.NetLaws.{formed_test, station_fits}
 use Rattle.net_format.proofs.NetPageLaws.{page_kept as net_kept}
 use Rattle.kvp_format.specs.Pairs.{kvp_model}
 use Rattle.kvp_format.proofs.PairLaws.{pair_kept, pair_reply_fits}
-use Rattle.device_kinds.specs.Kinds.{services, disks, nets, pairs, model_of, IsAskable}
+use Rattle.device_kinds.specs.Kinds.{Known, services, disks, nets, pairs, known, model_of, IsAskable}
 use Rattle.device_kinds.specs.Formats.{asked_as, besides_on, encode_on, read_on, fits_on, format_of, has_answer_on, lends_on, startup}
 
 -- a request and a reply of a kind are those that are found in them
@@ -65,14 +62,28 @@ case_nets = record {
 pub case_pairs : IsCase pairs
 case_pairs = record { step_found = λ s. refl; found = λ q. refl; asked = elim [ AskKvp x ↦ λ q h. cc | _ ↦ λ q h. cc ]; replied = elim [ ReplyKvp x ↦ λ r h. cc | _ ↦ λ r h. cc ] }
 
--- a row a kind
+-- what a kind keeps to among all
+record IsKind (k : Known) : Type 0 where
+  pub kept : KeepsWire k.model k.CanAsk
+  pub fits : (q : k.Q) (r : k.R) → k.MayReply q r → k.model.format.fits (k.request q) (k.reply r) ≡ true
+
+each_kind : (kind : DeviceKind) → IsKind (known kind)
+each_kind Beat = record { kept = kept_lifted services case_services (ic_model Beat) (IsIcAsk Beat) (service_kept Beat); fits = reply_fits Beat }
+each_kind Down = record { kept = kept_lifted services case_services (ic_model Down) (IsIcAsk Down) (service_kept Down); fits = reply_fits Down }
+each_kind Disk = record { kept = kept_lifted disks case_disks disk_model IsPageAsk disk_kept; fits = sized_fits }
+each_kind Net = record { kept = kept_lifted nets case_nets net_model IsNetAsk net_kept; fits = station_fits }
+each_kind Kvp = record { kept = kept_lifted pairs case_pairs kvp_model CanBeAsked pair_kept; fits = pair_reply_fits }
 
 pub kept_by : (kind : DeviceKind) → KeepsWire (model_of kind) (IsAskable kind)
-kept_by Beat = kept_lifted services case_services (ic_model Beat) (IsIcAsk Beat) (service_kept Beat)
-kept_by Down = kept_lifted services case_services (ic_model Down) (IsIcAsk Down) (service_kept Down)
-kept_by Disk = kept_lifted disks case_disks disk_model IsPageAsk disk_kept
-kept_by Net = kept_lifted nets case_nets net_model IsNetAsk net_kept
-kept_by Kvp = kept_lifted pairs case_pairs kvp_model CanBeAsked pair_kept
+kept_by kind = (each_kind kind).kept
+
+-- each request that can be asked of a kind's device can be asked among all, and each reply that it may give fits
+pub asks : (kind : DeviceKind) (q : (known kind).Q) → (known kind).CanBe q → IsAskable kind ((known kind).request q)
+asks Beat q can = can
+asks _ q can = can
+
+pub replies_fit : (kind : DeviceKind) (q : (known kind).Q) (r : (known kind).R) → (known kind).MayReply q r → fits_on kind ((known kind).request q) ((known kind).reply r) ≡ true
+replies_fit kind = (each_kind kind).fits
 
 -- a network's requests alone are asked under another id
 asked_so : (kind : DeviceKind) (id : ℕ) (ask : Ask) → IsAskable kind ask → (model_of kind).asked_as id ask ≡ asked_as id ask
@@ -120,21 +131,18 @@ script_asks kind = wire.script_asks (model_of kind) (IsAskable kind) (kept_by ki
 pub script_waits : (kind : DeviceKind) (ask : Ask) → IsAskable kind ask → has_answer_on kind (Request ask) ≡ true
 script_waits kind = wire.script_waits (model_of kind) (IsAskable kind) (kept_by kind)
 
--- each reply of a service, of a disk, of an adapter, or of a key-value service fits
+-- each reply of a service, of a disk, or of an adapter fits
 pub beat_fits : (q : IcAsk) (r : IcAnswer) → r ≡ reply_of Beat q → fits_on Beat (AskIc q) (ReplyIc r) ≡ true
-beat_fits q r is = reply_fits Beat q r is
+beat_fits = replies_fit Beat
 
 pub down_fits : (q : IcAsk) (r : IcAnswer) → r ≡ reply_of Down q → fits_on Down (AskIc q) (ReplyIc r) ≡ true
-down_fits q r is = reply_fits Down q r is
+down_fits = replies_fit Down
 
 pub disk_reply_fits : (q : DiskRequest) (r : DiskReply) → IsSized q r → fits_on Disk (AskDisk q) (ReplyDisk r) ≡ true
-disk_reply_fits q r sized = sized_fits q r sized
+disk_reply_fits = replies_fit Disk
 
 pub net_reply_fits : (q : Rndis) (r : NetReply) → StationKeeps (Ok q) r → fits_on Net (AskNet q) (ReplyNet r.status r.back) ≡ true
-net_reply_fits q r keeps = station_fits q r keeps
-
-pub kvp_reply_fits : (q : Message) (r : KvpReply) → IsReplyTo q r → fits_on Kvp (AskKvp q) (ReplyKvp r) ≡ true
-kvp_reply_fits q r reply = pair_reply_fits q r reply
+net_reply_fits = replies_fit Net
 
 -- each message that a line of a script sends can be asked
 pub sent_can : (m : Rndis) → IsSent m → can_ask m ≡ true

@@ -1,18 +1,20 @@
 -- What each kind of device is asked and replies, among what all kinds are.
-use Rattle.std.specs.Prelude.{Some, None}
+use Rattle.std.specs.Prelude.{◌≡◌, Option, Some, None, Ok}
 use Rattle.contact.specs.declared.kind.DeviceKind.{DeviceKind}
 use Rattle.contact.specs.declared.kind.DeviceKind.TheVariants.{Beat, Down, Disk, Net, Kvp}
 use Rattle.util_ic.specs.declared.ic.IcAsk.{IcAsk}
 use Rattle.util_ic.specs.declared.ic.IcAnswer.{IcAnswer}
+use Rattle.util_ic.specs.Asks.{reply_of}
+use Rattle.scsi_disk.specs.DiskModel.{IsSized}
 use Rattle.scsi_disk.specs.declared.request.DiskRequest.{DiskRequest}
 use Rattle.scsi_disk.specs.declared.reply.DiskReply.{DiskReply}
 use Rattle.scsi_disk.specs.declared.reply.DiskReply.TheVariants.{Check}
 use Rattle.rndis_msg.specs.declared.rndis.Rndis.{Rndis}
 use Rattle.net_dev.specs.declared.reply.NetReply.{NetReply}
-use Rattle.net_dev.specs.Station.{not_served}
+use Rattle.net_dev.specs.Station.{not_served, Keeps as StationKeeps}
 use Rattle.kvp_ic.specs.declared.message.Kvp.{Kvp as Message}
 use Rattle.kvp_ic.specs.declared.message.KvpReply.{KvpReply}
-use Rattle.kvp_ic.specs.Machine.{no_pool}
+use Rattle.kvp_ic.specs.Machine.{no_pool, IsReplyTo}
 use Rattle.kvp_ic.specs.Messages.{CanBeAsked}
 use Rattle.script_lines.specs.declared.line.Ask.{Ask}
 use Rattle.script_lines.specs.declared.line.Ask.TheVariants.{Ic as AskIc, Disk as AskDisk, Net as AskNet, Kvp as AskKvp}
@@ -37,71 +39,91 @@ use Rattle.kvp_format.specs.Pairs.{kvp_model}
 use Rattle.device_kinds.specs.declared.device_step.DeviceStep.{DeviceStep}
 use Rattle.device_kinds.specs.declared.device_step.DeviceStep.TheVariants.{Ic as StepIc, Disk as StepDisk, Net as StepNet, Kvp as StepKvp}
 
+-- one case of a type of all kinds: what is made of a value, and the value that is found in that case
+pub record One (X Y : Type 0) : Type 0 where
+  pub made : X → Y
+  pub found : Y → Option X
+
+abbrev pub one : {X Y : Type 0} → (X → Y) → (Y → Option X) → One X Y
+one made found = record { made = made; found = found }
+
+-- a kind whose steps, requests and replies are these cases, with its first step, and a reply that fits no request
+abbrev pub case_of : {S Q R : Type 0} → S → R → One S DeviceStep → One Q Ask → One R Reply → Case S Q R DeviceStep Ask Reply
+case_of first other step request reply = record {
+  step = step.made;
+  own_step = step.found;
+  first = first;
+  request = request.made;
+  own_request = request.found;
+  reply = reply.made;
+  own_reply = reply.found;
+  other = other;
+}
+
 -- services, disks, networks, and key-value services among all kinds
 abbrev pub services : Case IcStep IcAsk IcAnswer DeviceStep Ask Reply
-services = record {
-  step = StepIc;
-  own_step = elim [ StepIc s ↦ Some s | _ ↦ None ];
-  first = Negotiate;
-  request = AskIc;
-  own_request = elim [ AskIc ask ↦ Some ask | _ ↦ None ];
-  reply = ReplyIc;
-  own_reply = elim [ ReplyIc r ↦ Some r | _ ↦ None ];
-  other = record { status = 0; seq = 0 };
-}
+services = case_of Negotiate (record { status = 0; seq = 0 })
+    (one StepIc (elim [ StepIc s ↦ Some s | _ ↦ None ]))
+    (one AskIc (elim [ AskIc ask ↦ Some ask | _ ↦ None ]))
+    (one ReplyIc (elim [ ReplyIc r ↦ Some r | _ ↦ None ]))
 
 abbrev pub disks : Case DiskStep DiskRequest DiskReply DeviceStep Ask Reply
-disks = record {
-  step = StepDisk;
-  own_step = elim [ StepDisk s ↦ Some s | _ ↦ None ];
-  first = Begin;
-  request = AskDisk;
-  own_request = elim [ AskDisk q ↦ Some q | _ ↦ None ];
-  reply = ReplyDisk;
-  own_reply = elim [ ReplyDisk r ↦ Some r | _ ↦ None ];
-  other = Check 0 0 0;
-}
+disks = case_of Begin (Check 0 0 0)
+    (one StepDisk (elim [ StepDisk s ↦ Some s | _ ↦ None ]))
+    (one AskDisk (elim [ AskDisk q ↦ Some q | _ ↦ None ]))
+    (one ReplyDisk (elim [ ReplyDisk r ↦ Some r | _ ↦ None ]))
 
 abbrev pub nets : Case NetStep Rndis NetReply DeviceStep Ask Reply
-nets = record {
-  step = StepNet;
-  own_step = elim [ StepNet s ↦ Some s | _ ↦ None ];
-  first = Init;
-  request = AskNet;
-  own_request = elim [ AskNet message ↦ Some message | _ ↦ None ];
-  reply = λ r. ReplyNet r.status r.back;
-  own_reply = elim [ ReplyNet status back ↦ Some (record { status = status; back = back }) | _ ↦ None ];
-  other = not_served;
-}
+nets = case_of Init not_served
+    (one StepNet (elim [ StepNet s ↦ Some s | _ ↦ None ]))
+    (one AskNet (elim [ AskNet message ↦ Some message | _ ↦ None ]))
+    (one (λ r. ReplyNet r.status r.back) (elim [ ReplyNet status back ↦ Some (record { status = status; back = back }) | _ ↦ None ]))
 
 abbrev pub pairs : Case KvpStep Message KvpReply DeviceStep Ask Reply
-pairs = record {
-  step = StepKvp;
-  own_step = elim [ StepKvp s ↦ Some s | _ ↦ None ];
-  first = PairNegotiate;
-  request = AskKvp;
-  own_request = elim [ AskKvp m ↦ Some m | _ ↦ None ];
-  reply = ReplyKvp;
-  own_reply = elim [ ReplyKvp r ↦ Some r | _ ↦ None ];
-  other = no_pool;
-}
+pairs = case_of PairNegotiate no_pool
+    (one StepKvp (elim [ StepKvp s ↦ Some s | _ ↦ None ]))
+    (one AskKvp (elim [ AskKvp m ↦ Some m | _ ↦ None ]))
+    (one ReplyKvp (elim [ ReplyKvp r ↦ Some r | _ ↦ None ]))
 
 -- what is asked on a channel of any kind
 abbrev pub DeviceWant : Type 0
 DeviceWant = Want DeviceStep Ask
 
+-- What is known of a kind among all: what is asked of its device and what this may reply, as the kind has it, and what both ends of its channel say and what can be asked there, in the steps, requests and
+-- replies of all kinds
+pub record Known : Type 1 where
+  pub Q : Type 0
+  pub R : Type 0
+  pub request : Q → Ask
+  pub reply : R → Reply
+  pub CanBe : Q → Type 0
+  pub MayReply : Q → R → Type 0
+  pub model : WireModel DeviceStep Ask Reply
+  pub CanAsk : Ask → Type 0
+
+abbrev pub known_by : {S Q R : Type 0} → WireModel S Q R → Case S Q R DeviceStep Ask Reply → (Q → Type 0) → (Q → R → Type 0) → Known
+known_by {S} {Q} {R} m c CanBe MayReply = record {
+  Q = Q;
+  R = R;
+  request = c.request;
+  reply = c.reply;
+  CanBe = CanBe;
+  MayReply = MayReply;
+  model = lift_model m c;
+  CanAsk = CanAmong c CanBe;
+}
+
+abbrev pub known : DeviceKind → Known
+known Beat = known_by (ic_model Beat) services (IsIcAsk Beat) (λ q r. r ≡ reply_of Beat q)
+known Down = known_by (ic_model Down) services (IsIcAsk Down) (λ q r. r ≡ reply_of Down q)
+known Disk = known_by disk_model disks IsPageAsk IsSized
+known Net = known_by net_model nets IsNetAsk (λ q r. StationKeeps (Ok q) r)
+known Kvp = known_by kvp_model pairs CanBeAsked IsReplyTo
+
 -- what both ends of a channel of this kind say, in the steps, requests and replies of all kinds
 abbrev pub model_of : DeviceKind → WireModel DeviceStep Ask Reply
-model_of Beat = lift_model (ic_model Beat) services
-model_of Down = lift_model (ic_model Down) services
-model_of Disk = lift_model disk_model disks
-model_of Net = lift_model net_model nets
-model_of Kvp = lift_model kvp_model pairs
+model_of kind = (known kind).model
 
 -- this can be asked on a channel of this kind
 abbrev pub IsAskable : DeviceKind → Ask → Type 0
-IsAskable Beat = CanAmong services (IsIcAsk Beat)
-IsAskable Down = CanAmong services (IsIcAsk Down)
-IsAskable Disk = CanAmong disks IsPageAsk
-IsAskable Net = CanAmong nets IsNetAsk
-IsAskable Kvp = CanAmong pairs CanBeAsked
+IsAskable kind = (known kind).CanAsk

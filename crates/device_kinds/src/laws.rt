@@ -1,26 +1,19 @@
 //! Laws of what the packets of each kind of channel say: each function does nothing, and its contract is a law.
-ghost use Rattle.std.specs.Prelude.{◌≡◌, ℕ, true, List, Some, Ok, map};
+ghost use Rattle.std.specs.Prelude.{◌≡◌, ℕ, true, List, Some, map};
 ghost use Rattle.std.specs.List.{AllByRecursion};
 ghost use Rattle.contact.specs.declared.kind.DeviceKind.{DeviceKind};
-ghost use Rattle.contact.specs.declared.kind.DeviceKind.TheVariants.{Net, Kvp};
+ghost use Rattle.contact.specs.declared.kind.DeviceKind.TheVariants.{Net};
 ghost use Rattle.rndis_msg.specs.declared.rndis.Rndis.{Rndis as Message};
-ghost use Rattle.net_dev.specs.declared.reply.NetReply.{NetReply};
-ghost use Rattle.net_dev.specs.Station.{Keeps as StationKeeps};
-ghost use Rattle.kvp_ic.specs.declared.message.Kvp.{Kvp as Request};
-ghost use Rattle.kvp_ic.specs.declared.message.KvpReply.{KvpReply};
-ghost use Rattle.kvp_ic.specs.Machine.{IsReplyTo};
-ghost use Rattle.kvp_ic.specs.Messages.{CanBeAsked};
 ghost use Rattle.script_lines.specs.Requests.{IsSent};
 ghost use Rattle.script_lines.specs.declared.line.Ask.{Ask};
-ghost use Rattle.script_lines.specs.declared.line.Ask.TheVariants.{Net as AskNet, Kvp as AskKvp};
-ghost use Rattle.bus_script.specs.declared.outcome.Reply.TheVariants.{Net as ReplyNet, Kvp as ReplyKvp};
+ghost use Rattle.script_lines.specs.declared.line.Ask.TheVariants.{Net as AskNet};
 ghost use Rattle.channel_model.specs.WireFormat.{Keeps};
 ghost use Rattle.channel_model.specs.Amounts.{MayHaveMessages};
 ghost use Rattle.channel_model.specs.Channel.{AllFixed, AllAsk};
 ghost use Rattle.channel_protocol.specs.Paged.{KeepsPages};
 ghost use Rattle.device_wire.specs.declared.buffer_lists.BufferLists.{BufferLists};
 ghost use Rattle.device_wire.specs.declared.want.Want.TheVariants.{Request as RequestWant};
-ghost use Rattle.device_kinds.specs.Kinds.{IsAskable};
+ghost use Rattle.device_kinds.specs.Kinds.{known, IsAskable};
 ghost use Rattle.device_kinds.specs.Formats.{asked_as, besides_on, encode_on, read_on, fits_on, format_of, lends_on, startup};
 
 /// The packets of each kind of channel, in the requests and replies of all kinds, keep to the laws of a wire format: each request that has an answer is answered once, under its id, and the reply is
@@ -47,19 +40,14 @@ pub fn sent_messages_can_be_asked()
     ensures { (message : Message) → IsSent message → IsAskable Net (AskNet message) }
 {}
 
-/// Each reply that an adapter may give fits its request: it can be sent back, and is read there.
-pub fn adapter_replies_fit()
-    ensures { (message : Message) (reply : NetReply) → StationKeeps (Ok message) reply → fits_on Net (AskNet message) (ReplyNet reply.status reply.back) ≡ true }
+/// Each request that can be asked of the device of a kind can be asked on its channel.
+pub fn requests_can_be_asked()
+    ensures { (kind : DeviceKind) (request : (known kind).Q) → (known kind).CanBe request → IsAskable kind ((known kind).request request) }
 {}
 
-/// Each request of a line can be asked of a key-value service.
-pub fn pair_requests_can_be_asked()
-    ensures { (request : Request) → CanBeAsked request → IsAskable Kvp (AskKvp request) }
-{}
-
-/// Each reply that a key-value service may give fits its request: it can be sent back, and is read there.
-pub fn pair_replies_fit()
-    ensures { (request : Request) (reply : KvpReply) → IsReplyTo request reply → fits_on Kvp (AskKvp request) (ReplyKvp reply) ≡ true }
+/// Each reply that the device of a kind may give fits its request: it can be sent back, and is read there.
+pub fn replies_fit()
+    ensures { (kind : DeviceKind) (request : (known kind).Q) (reply : (known kind).R) → (known kind).MayReply request reply → fits_on kind ((known kind).request request) ((known kind).reply reply) ≡ true }
 {}
 
 /// The device is asked exactly what the script asked; a message for an adapter that has a request id has that of its packet.

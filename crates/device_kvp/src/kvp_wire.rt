@@ -14,7 +14,7 @@ use kvp_ic::{Kvp, KvpReply};
 pub struct KvpWire;
 
 impl Wire for KvpWire {
-    ghost use Rattle.std.specs.Prelude.{refl, IsSome};
+    ghost use Rattle.std.specs.Prelude.{◌≡◌, true, false, refl, IsSome};
     ghost use Rattle.device_packets.specs.Said.{said_item};
     ghost use Rattle.device_packets.proofs.SaidLaws.{said_few as few_said, said_bare as bare_said};
     ghost use Rattle.kvp_ic.specs.Messages.{CanBeAsked};
@@ -53,7 +53,9 @@ impl Wire for KvpWire {
         false
     }
 
-    fn count_steps(&self, _subs: u32) -> u32 {
+    fn count_steps(&self, _subs: u32) -> u32
+        ensures { result ≡ 1 }
+    {
         1
     }
 
@@ -77,15 +79,21 @@ impl Wire for KvpWire {
         is_inband(packet)
     }
 
-    fn is_ack(&self, _packet: &[u64]) -> bool {
+    fn is_ack(&self, _packet: &[u64]) -> bool
+        ensures { result ≡ false }
+    {
         false
     }
 
-    fn is_answer(&self, _packet: &[u64]) -> bool {
+    fn is_answer(&self, _packet: &[u64]) -> bool
+        ensures { result ≡ true }
+    {
         true
     }
 
-    fn is_message(&self, _packet: &[u64]) -> bool {
+    fn is_message(&self, _packet: &[u64]) -> bool
+        ensures { result ≡ false }
+    {
         false
     }
 

@@ -2,7 +2,7 @@
 use Rattle.std.proofs.Common.{◌≡◌, ℕ, Bool, true, false, cond, ◌&&◌, ◌<◌, List, [], length, Option, Some, None, refl, sym, ap, subst, ◌∙◌, arith}
 use Rattle.std.specs.Prelude.{is_none, is_some}
 use Rattle.contact.specs.declared.kind.DeviceKind.{DeviceKind}
-use Rattle.contact.specs.declared.kind.DeviceKind.TheVariants.{Beat, Down, Disk, Net, Kvp}
+use Rattle.contact.specs.declared.kind.DeviceKind.TheVariants.{Beat, Down}
 use Rattle.util_ic.specs.declared.ic.IcAsk.{IcAsk}
 use Rattle.util_ic.specs.declared.ic.IcAsk.TheVariants.{Beat as AskBeat, Down as AskDown}
 use Rattle.util_ic.specs.declared.ic.IcAnswer.{IcAnswer}
@@ -68,12 +68,8 @@ module _ (kind : DeviceKind) where
 
 can_read : (kind : DeviceKind) (id : ℕ) (ask : IcAsk) → IsIcAsk kind ask → service_read kind (service_encode id (Request ask)) ≡ Some ask
 can_read Beat id (AskBeat seq) can = ask_read id (AskBeat seq) can
-can_read Beat id (AskDown reason timeout flags) can = absurd can
-can_read Down id (AskBeat seq) can = absurd can
 can_read Down id (AskDown reason timeout flags) can = ask_read id (AskDown reason timeout flags) can
-can_read Disk id ask can = absurd can
-can_read Net id ask can = absurd can
-can_read Kvp id ask can = absurd can
+can_read _ id ask can = absurd can
 
 pub service_kept : (kind : DeviceKind) → KeepsWire (ic_model kind) (IsIcAsk kind)
 service_kept kind = codec_kept (service_codec kind) false (λ subs lists. (ic_model kind).steps subs lists) (IsIcAsk kind) (record {

@@ -5,7 +5,7 @@ use Rattle.std.specs.Fmt.{decimal}
 use Rattle.scsi_disk.specs.declared.reply.DiskReply.{DiskReply}
 use Rattle.scsi_disk.specs.declared.reply.DiskReply.TheVariants.{Good, Check}
 use Rattle.bus_script.specs.declared.outcome.Reply.{Reply}
-use Rattle.bus_script.specs.declared.outcome.Reply.TheVariants.{Ic as IcReply, Disk as ReplyDisk, Net as ReplyNet, Kvp as ReplyKvp}
+use Rattle.bus_script.specs.declared.outcome.Reply.TheVariants.{Disk as ReplyDisk}
 use Rattle.bus_script.specs.declared.outcome.LineResult.{LineResult}
 use Rattle.bus_script.specs.declared.outcome.LineResult.TheVariants.{Version as Agreed, Done, RescindedServed, Unserved, Modified, Unsupported, Gone, Closed}
 use Rattle.bus_script.specs.Report.{is_done}
@@ -16,10 +16,8 @@ disk_back (Good back) = back
 disk_back (Check key asc ascq) = []
 
 abbrev pub reply_back : Reply → List ℕ
-reply_back (IcReply answer) = []
 reply_back (ReplyDisk reply) = disk_back reply
-reply_back (ReplyNet status back) = []
-reply_back (ReplyKvp reply) = []
+reply_back _ = []
 
 -- the bytes that came back to a line
 abbrev pub back_of : LineResult → List ℕ

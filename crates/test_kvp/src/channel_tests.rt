@@ -69,7 +69,7 @@ fn said(
 }
 
 // What is asked of the service, and what the host reads in the answer.
-#[tactic(auto, using(device_kinds::proofs::KindLaws::kvp_reply_fits))]
+#[tactic(auto, using(crate::proofs::Fitting::kvp_reply_fits))]
 fn round(rt: &impl Abort, alloc: Global, machine: &mut KvpMachine, request: Kvp) -> KvpReply {
     let protocol = protocol_of(rt, alloc, request);
     let mut words = [0; 384];
@@ -247,8 +247,8 @@ fn a_pool_that_is_not_there_is_not_asked(rt: HostRuntime) {
         &rt,
         !is_askable(DeviceKind::Beat, &Ask::Kvp(Kvp::Enum { pool: 4, index: 0 })),
     );
-    device_kinds::laws::pair_requests_can_be_asked();
-    device_kinds::laws::pair_replies_fit();
+    device_kinds::laws::requests_can_be_asked();
+    device_kinds::laws::replies_fit();
     kvp_format::laws::a_refused_message_asks_nothing();
     kvp_format::laws::another_message_is_served();
 }

@@ -3,7 +3,7 @@ use Rattle.std.proofs.Common.{◌≡◌, ℕ, ◌+◌, ◌%◌, ◌^◌, ◌<◌
 use Rattle.std.specs.Prelude.{◌⊎◌}
 use Rattle.std.proofs.lemmas.Bool.Decides.{nat_tests}
 use Rattle.contact.specs.declared.kind.DeviceKind.{DeviceKind}
-use Rattle.contact.specs.declared.kind.DeviceKind.TheVariants.{Beat as KindBeat, Down as KindDown, Disk, Net, Kvp}
+use Rattle.contact.specs.declared.kind.DeviceKind.TheVariants.{Down as KindDown}
 use Rattle.util_ic.specs.declared.ic.IcAsk.{IcAsk}
 use Rattle.util_ic.specs.declared.ic.IcAsk.TheVariants.{Beat, Down}
 use Rattle.util_ic.specs.declared.version.Version.{Version}
@@ -80,11 +80,8 @@ downs_in kind b is =
     (shutdown_if (nat_lt (length b) 28) (type_of b == 0) ((type_of b == 1) && on_beat kind && nat_le 36 (length b)) ((type_of b == 3) && on_down kind && nat_le 40 (length b)) (negotiation_of b) is)
 
 down_only : (kind : DeviceKind) → on_down kind ≡ true → on_beat kind ≡ false
-down_only KindBeat h = cc
 down_only KindDown h = refl
-down_only Disk h = cc
-down_only Net h = cc
-down_only Kvp h = cc
+down_only _ h = cc
 
 status_fits : (small : Bool) → cond small 0 fail < 2 ^ 32
 status_fits true = omega arith

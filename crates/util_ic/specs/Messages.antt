@@ -3,33 +3,25 @@ use Rattle.std.specs.Prelude.{ℕ, ◌+◌, ◌%◌, ◌^◌, Bool, true, false,
 use Rattle.wire_table.specs.Little.{number_of, bytes_of}
 use Rattle.wire_table.specs.Rows.{Row, num, raw, spelled_after}
 use Rattle.contact.specs.declared.kind.DeviceKind.{DeviceKind}
-use Rattle.contact.specs.declared.kind.DeviceKind.TheVariants.{Beat, Down, Disk, Net, Kvp}
+use Rattle.contact.specs.declared.kind.DeviceKind.TheVariants.{Beat, Down, Disk, Net}
 use Rattle.util_ic.specs.declared.ic.IcAsk.{IcAsk}
 use Rattle.util_ic.specs.declared.ic.IcAsk.TheVariants.{Beat as AskBeat, Down as AskDown}
 
 -- the test for a heartbeat channel
 abbrev pub on_beat : DeviceKind → Bool
 on_beat Beat = true
-on_beat Down = false
-on_beat Disk = false
-on_beat Net = false
-on_beat Kvp = false
+on_beat _ = false
 
 -- the test for a shutdown channel
 abbrev pub on_down : DeviceKind → Bool
-on_down Beat = false
 on_down Down = true
-on_down Disk = false
-on_down Net = false
-on_down Kvp = false
+on_down _ = false
 
--- a utility channel
+-- a utility channel: no disk's and no network's
 abbrev pub IsUtility : DeviceKind → Type 0
-IsUtility Beat = Unit {0}
-IsUtility Down = Unit {0}
 IsUtility Disk = ⊥
 IsUtility Net = ⊥
-IsUtility Kvp = Unit {0}
+IsUtility _ = Unit {0}
 
 -- the number of so many bytes at a place
 abbrev pub number_at : ℕ → ℕ → List ℕ → ℕ

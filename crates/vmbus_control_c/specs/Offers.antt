@@ -19,12 +19,8 @@ kind_number Kvp = 6
 
 -- the port of a kind, which others than sockets' don't have
 abbrev pub port_of : Kind → ℕ
-port_of Beat = 0
-port_of Down = 0
-port_of Disk = 0
-port_of Net = 0
-port_of Kvp = 0
 port_of (Sock port) = port
+port_of _ = 0
 
 -- the numbers of an offer
 abbrev pub numbers_of : Offered → VmbusOffer

@@ -13,6 +13,3 @@ returns-in-Disk c lists = c.count_steps-in-Disk.ensures lists ∙ (sym (length-m
 
 pub returns-in-Net : goal.returns-in-Net
 returns-in-Net c lists = c.count_steps-in-Net.ensures lists ∙ ap (λ m. length (m.steps c.args.subs lists)) (sym (model_at c.in-Net.is c.self.view_is))
-
-pub returns-in-Kvp : goal.returns-in-Kvp
-returns-in-Kvp c lists = c.count_steps-in-Kvp.ensures lists ∙ ap (λ m. length (m.steps c.args.subs lists)) (sym (model_at c.in-Kvp.is c.self.view_is))

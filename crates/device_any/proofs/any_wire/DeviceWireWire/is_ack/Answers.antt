@@ -7,6 +7,3 @@ returns-in-Beat c i same = c.is_ack.ensures i same ∙ ap (λ m. m.format.is_ack
 
 pub returns-in-Disk : goal.returns-in-Disk
 returns-in-Disk c i same = c.is_ack-in-Disk.ensures i same ∙ ap (λ m. m.format.is_ack i) (sym (model_at c.in-Disk.is c.self.view_is))
-
-pub returns-in-Kvp : goal.returns-in-Kvp
-returns-in-Kvp c i same = c.is_ack-in-Kvp.ensures i same ∙ ap (λ m. m.format.is_ack i) (sym (model_at c.in-Kvp.is c.self.view_is))
