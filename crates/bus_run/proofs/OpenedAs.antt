@@ -7,7 +7,7 @@ use Rattle.std.proofs.lemmas.List.{append-nil, map-append, length-drop}
 use Rattle.std.proofs.lemmas.Grind.{flat_map-append}
 use Rattle.script_lines.specs.declared.line.Line.{Line}
 use Rattle.script_lines.specs.declared.line.DeviceSpec.{DeviceSpec}
-use Rattle.script_lines.specs.declared.line.DeviceSpec.TheVariants.{Beat, Down, Disk, Net, Kvp}
+use Rattle.script_lines.specs.declared.line.DeviceSpec.TheVariants.{Net}
 use Rattle.script_lines.specs.Parts.{kind_of}
 use Rattle.script_phases.specs.Openings.{Opening, Phase, by_relid}
 use Rattle.control_model.specs.Plan.{phase_of}
@@ -66,11 +66,8 @@ have_worked phase posted settings p old plan before seats pairs dones settled se
 
 -- where a network's lists are the plan's, those of any channel are
 as_planned : (spec : DeviceSpec) (posted : List Msg) (relid : ℕ) (o : PlanOpening) → (has_buffers spec ≡ true → lists_in posted relid ≡ planned_lists o) → lists_on (kind_of spec) posted relid ≡ planned_on (kind_of spec) o
-as_planned Beat posted relid o planned = refl
-as_planned Down posted relid o planned = refl
-as_planned (Disk blocks subs) posted relid o planned = refl
 as_planned (Net mac station) posted relid o planned = planned refl
-as_planned Kvp posted relid o planned = refl
+as_planned _ posted relid o planned = refl
 
 -- and that is what the lines set, and what the control path's plan has
 opened_as : (lines : List Line) (devices : ℕ) (posted : List Msg) (settings : List Settings) (p : Phase) (os : List Opening) (pairs : List Pairing) → SettingsOf lines devices settings → TellsPlanned (plan_of lines) p.number posted

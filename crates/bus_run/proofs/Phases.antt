@@ -14,11 +14,12 @@ use Rattle.bus_script.specs.declared.outcome.LineResult.{LineResult}
 use Rattle.script_lines.specs.Parts.{parts, ends_part, offered, offered_by, bads_of}
 use Rattle.script_lines.specs.WellFormed.{AllRight, AllGo, IsRight, IsScript}
 use Rattle.script_lines.specs.declared.line.What.{What}
-use Rattle.script_lines.specs.declared.line.What.TheVariants.{Contact as IsContact, Offer as IsOffer, Bad as IsBad, RingSize as IsRingSize, Window as IsWindow, Ask as IsAsk, Rescind as IsRescind, Shut as IsShut, Modify as IsModify, Phase as IsPhase}
-use Rattle.script_lines.specs.declared.line.DeviceSpec.TheVariants.{Beat as IsBeat, Down as IsDown, Disk as IsDisk, Net as IsNet, Kvp as IsKvp}
+use Rattle.script_lines.specs.declared.line.What.TheVariants.{Offer as IsOffer}
+use Rattle.script_lines.specs.declared.line.DeviceSpec.TheVariants.{Disk as IsDisk}
 use Rattle.bus_model.proofs.Lists.{each_append}
 use Rattle.contact.specs.declared.version.Version.{Version}
 use Rattle.script_phases.specs.Agreed.{agreed_in}
+use Rattle.phase_plan.specs.Opened.{parts_left}
 use Rattle.script_phases.specs.Openings.{Phase, by_relid, subs_of, is_opened, opened_from, others, phases_from, phases}
 use Rattle.control_model.specs.Plan.{phase_of}
 use Rattle.control_model.specs.Openings.{plan_of}
@@ -37,7 +38,7 @@ use Rattle.device_any.specs.Boxes.{IsFresh, IsKept, box_log, setup_for, setup_of
 use Rattle.device_any.specs.declared.device_box.DeviceBox.{DeviceBox}
 use Rattle.bus_run.specs.Opened.{AllRanAsSet, HaveWorked, IsPlanned}
 use Rattle.bus_run.specs.Settings.{SettingsOf}
-use Rattle.bus_run.specs.Whole.{IsThis, PhaseRan, AreFresh, setups_from, specs_of, parts_left, earlier_lines, NextWithin, behind, next_relid, RunsSoFar}
+use Rattle.bus_run.specs.Whole.{IsThis, PhaseRan, AreFresh, setups_from, specs_of, earlier_lines, next_relid, RunsSoFar}
 use Rattle.bus_run.proofs.OpenedAs.{ran_more}
 use Rattle.bus_run.proofs.Told.{TellsPlanned, all_planned}
 
@@ -188,17 +189,9 @@ this_phase ps phase part rest left =
     let head : part ≡ get_or ps phase part = ap (λ l. get_or l 0 part) heads in
     (less, (λ P all. subst P (sym head) (all phase part less)), ap (drop 1) heads)
 
-pub part_next : (lines part : List Line) (at : ℕ) (next : Option ℕ) → MatchOption next (parts (drop at lines) ≡ part ∷ []) (λ n. parts (drop at lines) ≡ part ∷ parts (drop n (drop at lines))) → parts (drop at lines) ≡ part ∷ parts_left lines (behind at next)
-part_next lines part at None is = is
-part_next lines part at (Some n) is = is ∙ ap (λ l. part ∷ parts l) (drop-drop n at lines)
-
-pub within_next : (lines : List Line) (at : ℕ) (next : Option ℕ) → at ≤ length lines → MatchOption next ⊤ (λ n. n ≤ length (drop at lines)) → NextWithin lines (behind at next)
-within_next lines at None le is = tt
-within_next lines at (Some n) le is = omega (arith, le, is, length-drop at lines)
-
-pub fits_next : (lines : List Line) (at : ℕ) (next : Option ℕ) → at ≤ length lines → length lines ≤ 20000 → MatchOption next ⊤ (λ n. n ≤ length (drop at lines)) → MatchOption next ⊤ (λ n. at + n ≤ 20000)
-fits_next lines at None le few is = is
-fits_next lines at (Some n) le few is = omega (arith, le, few, is, length-drop at lines)
+-- what was cut off at the place of the next phase stands first among those left
+pub cut_off : (lines given part : List Line) (r : Runner) (at : ℕ) (next : Option ℕ) → given ≡ lines → RunsSoFar lines r → r.next ≡ Some at → parts_left given (Some at) ≡ part ∷ parts_left given next → part ∷ parts_left lines next ≡ drop r.phase (parts lines)
+cut_off lines given part r at next is so_far here cut = sym (subst (λ l. parts_left l (Some at) ≡ part ∷ parts_left l next) is cut) ∙ ap (parts_left lines) (sym here) ∙ so_far.left
 
 -- a run of some phases goes on with one more
 pub runs_push : (ps : List Phase) (before between after : List (List Recorded)) (settled runs : List ChannelRun) (results told : List LineResult) (p : Phase) → RunsOf ps before settled between results → PhaseRuns p between after runs told
@@ -271,20 +264,9 @@ next_phase lines r part rest so_far script left =
 -- the devices that right lines offer have few channels
 
 few_offered : (kinds : List DeviceSpec) (w : What) → IsRight kinds w → AllByRecursion (λ s. subs_of s ≤ 3) (offered_by w)
-few_offered kinds (IsContact guest host) right = tt
-few_offered kinds (IsOffer name IsBeat) right = (omega arith, tt)
-few_offered kinds (IsOffer name IsDown) right = (omega arith, tt)
 few_offered kinds (IsOffer name (IsDisk blocks subs)) right = (right.2, tt)
-few_offered kinds (IsOffer name (IsNet mac station)) right = (omega arith, tt)
-few_offered kinds (IsOffer name IsKvp) right = (omega arith, tt)
-few_offered kinds (IsBad d lba) right = tt
-few_offered kinds (IsRingSize d pages) right = tt
-few_offered kinds (IsWindow d size) right = tt
-few_offered kinds (IsAsk d ask) right = tt
-few_offered kinds (IsRescind d after held) right = tt
-few_offered kinds (IsShut d) right = tt
-few_offered kinds (IsModify d vp) right = tt
-few_offered kinds IsPhase right = tt
+few_offered kinds (IsOffer name _) right = (omega arith, tt)
+few_offered kinds _ right = tt
 
 pub all_few : (kinds : List DeviceSpec) (lines : List Line) → AllRight kinds lines → AllByRecursion (λ s. subs_of s ≤ 3) (offered lines)
 all_few kinds [] right = tt
@@ -304,7 +286,7 @@ start lines r agreed fresh settings none relid sixteen phase next settled result
       worked = subst (λ k. AllRanAsSet lines (take k (phases lines)) r.work.items r.settled.items) (sym phase)
           (subst (λ l. AllRanAsSet lines [] l r.settled.items) (sym work) (subst (λ l. AllRanAsSet lines [] [] l) (sym settled) (record { each = tt; carried = refl })));
       left = ap (parts_left lines) next ∙ ap (λ p. drop p (parts lines)) (sym phase);
-      within = subst (NextWithin lines) (sym next) (omega arith);
+      within = subst (λ n. MatchOption n ⊤ (λ at. at ≤ length lines)) (sym next) (omega arith);
       counted = omega (arith, phase);
       kinds = fresh.kinds_are;
       setups = fresh.setups_are;
@@ -322,21 +304,17 @@ start lines r agreed fresh settings none relid sixteen phase next settled result
     }
 
 -- one more phase ran
-pub go_on : (lines part : List Line) (posted : List Msg) (old new : Runner) (at : ℕ) (next : Option ℕ) → IsSaidToStart (plan_of lines) old.phase posted → TellsPlanned (plan_of lines) old.phase posted → RunsSoFar lines old → IsScript lines → old.next ≡ Some at
-    → MatchOption next (parts (drop at lines) ≡ part ∷ []) (λ n. parts (drop at lines) ≡ part ∷ parts (drop n (drop at lines))) → MatchOption next ⊤ (λ n. n ≤ length (drop at lines))
+pub go_on : (lines part : List Line) (posted : List Msg) (old new : Runner) → IsSaidToStart (plan_of lines) old.phase posted → TellsPlanned (plan_of lines) old.phase posted → RunsSoFar lines old → IsScript lines → part ∷ parts_left lines new.next ≡ drop old.phase (parts lines) → MatchOption new.next ⊤ (λ at. at ≤ length lines)
     → ((p : Phase) → IsThis old.version.0 old.phase part old.ended.items (specs_of old.boxes.items) old.relid p → PhaseRan p old.boxes.items new.boxes.items old.settled.items new.settled.items old.results.items new.results.items)
     → ((p : Phase) → IsThis old.version.0 old.phase part old.ended.items (specs_of old.boxes.items) old.relid p → new.relid ≡ old.relid + length (others p.opened)) → new.relid ≤ old.relid + 48
     → ((earlier : List Line) → AreEnded earlier old.ended.items → AreEnded (earlier ++ part) new.ended.items)
-    → length new.ended.items ≡ length old.ended.items → All (IsReady (4096 * (old.phase + 1))) new.boxes.items → new.phase ≡ old.phase + 1 → new.next ≡ behind at next → new.settings.items ≡ old.settings.items → new.version ≡ old.version
+    → length new.ended.items ≡ length old.ended.items → All (IsReady (4096 * (old.phase + 1))) new.boxes.items → new.phase ≡ old.phase + 1 → new.settings.items ≡ old.settings.items → new.version ≡ old.version
     → ((p : Phase) → IsThis old.version.0 old.phase part old.ended.items (specs_of old.boxes.items) old.relid p → HaveWorked posted old.settings.items p old.settled.items new.settled.items old.work.items new.work.items) → RunsSoFar lines new
-go_on lines part posted old new at next said told so_far script here split within ran relids few ended count ready phase moved settings agreed worked =
-    let cut : parts (drop at lines) ≡ part ∷ parts_left lines (behind at next) = part_next lines part at next split in
-    let left : part ∷ parts_left lines (behind at next) ≡ drop old.phase (parts lines) = sym cut ∙ ap (parts_left lines) (sym here) ∙ so_far.left in
+go_on lines part posted old new said told so_far script left within ran relids few ended count ready phase settings agreed worked =
     let p = the_phase lines old.phase in
-    let is_this = next_phase lines old part (parts_left lines (behind at next)) so_far script left in
+    let is_this = next_phase lines old part (parts_left lines new.next) so_far script left in
     let one = ran p is_this in
-    let this = this_phase (parts lines) old.phase part (parts_left lines (behind at next)) left in
-    let started : at ≤ length lines = subst (NextWithin lines) here so_far.within in
+    let this = this_phase (parts lines) old.phase part (parts_left lines new.next) left in
     let boxes : length new.boxes.items ≡ length old.boxes.items = sym (length-map new.boxes.items spec_of) ∙ ap length one.kinds ∙ length-map old.boxes.items spec_of in
     let less : old.phase < length (phases lines) = omega (arith, this.0, phases_long (agreed_in lines) (offered lines) 0 (length (offered lines) + 1) [] (parts lines)) in
     let before : List (List Recorded) = map (λ k. []) (offered lines) in
@@ -356,8 +334,8 @@ go_on lines part posted old new at next said told so_far script here split withi
           (ran_more lines (length old.boxes.items) posted old.settings.items (take old.phase (phases lines)) p old.work.items new.work.items old.settled.items new.settled.items so_far.settings
           (subst (λ n. IsSaidToStart (plan_of lines) n posted) (sym is_this.number) said) (subst (λ n. TellsPlanned (plan_of lines) n posted) (sym is_this.number) told)
           (subst (λ n. AllByRecursion (IsPlanned (phase_of (plan_of lines) n)) (by_relid p.opened)) (sym is_this.number) (all_planned lines old.phase no_phase less)) so_far.worked (worked p is_this));
-      left = ap (parts_left lines) moved ∙ this.2 ∙ ap (λ p. drop p (parts lines)) (sym phase);
-      within = subst (NextWithin lines) (sym moved) (within_next lines at next started within);
+      left = this.2 ∙ ap (λ p. drop p (parts lines)) (sym phase);
+      within = within;
       counted = omega (arith, phase, this.0);
       kinds = one.kinds ∙ so_far.kinds;
       setups = one.setups ∙ so_far.setups;

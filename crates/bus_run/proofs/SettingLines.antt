@@ -19,26 +19,6 @@ use Rattle.bus_run.specs.declared.settings.Settings.{Settings}
 abbrev set_in : (What → List ℕ) → List Line → List ℕ
 set_in by lines = flat_map (λ l. by l.what) lines
 
-pub set_taken : (by : What → List ℕ) (lines : List Line) (i : ℕ) (line : Line) → i < length lines → line ≡ get_or lines i line → set_in by (take i lines) ≡ [] → by line.what ≡ [] → set_in by (take (i + 1) lines) ≡ []
-set_taken by lines i line less is before none =
-    ap (set_in by) (take_more lines i line less ∙ ap (λ x. take i lines ++ x ∷ []) (sym is))
-    ∙ flat_map-append (λ l. by l.what) (take i lines) (line ∷ [])
-    ∙ ap (λ l. l ++ set_in by (line ∷ [])) before
-    ∙ append-nil (by line.what)
-    ∙ none
-
-pub set_found : (by : What → List ℕ) (lines : List Line) (i : ℕ) (line : Line) (value default : ℕ) → i < length lines → line ≡ get_or lines i line → set_in by (take i lines) ≡ [] → by line.what ≡ value ∷ [] → value ≡ slice_index_or (set_in by lines) 0 default
-set_found by lines i line value default less is before found =
-    let cut : lines ≡ take i lines ++ line ∷ drop (i + 1) lines = sym (take-append-drop i lines) ∙ ap (λ l. take i lines ++ l) (drop_more lines i line less ∙ ap (λ x. x ∷ drop (i + 1) lines) (sym is)) in
-    sym (ap (λ l. slice_index_or l 0 default)
-    (ap (set_in by) cut
-    ∙ flat_map-append (λ l. by l.what) (take i lines) (line ∷ drop (i + 1) lines)
-    ∙ ap (λ l. l ++ set_in by (line ∷ drop (i + 1) lines)) before
-    ∙ ap (λ (l : List ℕ). l ++ set_in by (drop (i + 1) lines)) found))
-
-pub set_nowhere : (by : What → List ℕ) (lines : List Line) (i default : ℕ) → length lines ≤ i → set_in by (take i lines) ≡ [] → default ≡ slice_index_or (set_in by lines) 0 default
-set_nowhere by lines i default over none = sym (ap (λ l. slice_index_or l 0 default) (sym (ap (set_in by) (take_all i lines over)) ∙ none))
-
 pub settings_more : (lines : List Line) (n : ℕ) (settings new : List Settings) (x : Settings) → SettingsOf lines n settings → new ≡ settings ++ x ∷ [] → x ≡ settings_of lines n → SettingsOf lines (n + 1) new
 settings_more lines n settings new x so_far grown is = subst (SettingsOf lines (n + 1)) (sym grown) (record {
   count = omega (arith, so_far.count, length-append settings (x ∷ []));

@@ -2,7 +2,7 @@
 use Rattle.std.specs.Prelude.{ℕ, ◌≡◌, ◌*◌, ◌<◌, ◌≤◌, ◌==◌, List, [], ◌∷◌, ◌++◌, length, map, filter, sum, slice_index_or, Some, None}
 use Rattle.std.specs.List.{AllByRecursion}
 use Rattle.contact.specs.declared.kind.DeviceKind.{DeviceKind}
-use Rattle.contact.specs.declared.kind.DeviceKind.TheVariants.{Beat, Down, Disk, Net, Kvp}
+use Rattle.contact.specs.declared.kind.DeviceKind.TheVariants.{Net}
 use Rattle.worker_pair.specs.Plans.{stop_of}
 use Rattle.device_any.specs.Seats.{kind_at}
 use Rattle.device_any.specs.declared.device_seat.DeviceSeat.{DeviceSeat}
@@ -76,11 +76,8 @@ lists_in posted relid = record { receive = (lists_told relid (0, 0) posted).0; s
 
 -- those that are told on a channel of this kind: a network's alone has buffers
 abbrev pub lists_on : DeviceKind → List Msg → ℕ → BufferLists
-lists_on Beat posted relid = no_lists
-lists_on Down posted relid = no_lists
-lists_on Disk posted relid = no_lists
 lists_on Net posted relid = lists_in posted relid
-lists_on Kvp posted relid = no_lists
+lists_on _ posted relid = no_lists
 
 -- the page lists that a plan has for a channel's buffers
 abbrev pub planned_lists : PlanOpening → BufferLists
@@ -88,11 +85,8 @@ planned_lists o = record { receive = buffer_list o Receive; send = buffer_list o
 
 -- and for a channel of this kind
 abbrev pub planned_on : DeviceKind → PlanOpening → BufferLists
-planned_on Beat o = no_lists
-planned_on Down o = no_lists
-planned_on Disk o = no_lists
 planned_on Net o = planned_lists o
-planned_on Kvp o = no_lists
+planned_on _ o = no_lists
 
 -- a channel was opened as the settings say and as was ordered, with this seat. What a network's guest tells of its buffers are the page lists that stand in what the guest's control posted, and on any other channel it tells none
 pub record IsOpenedWith (posted : List Msg) (settings : Settings) (relid : ℕ) (order : Order) (seat : DeviceSeat) (pair : Pairing) : Type 0 where

@@ -1,25 +1,12 @@
 -- What the lines of a script set of its devices' channels.
 use Rattle.std.specs.Prelude.{ℕ, ◌≡◌, ◌<◌, ◌≤◌, List, length, slice_index_or}
-use Rattle.std.specs.List.{flat_map}
-use Rattle.script_lines.specs.Parts.{ring_pages_of, window_of, pages_by, window_by}
+use Rattle.script_lines.specs.Parts.{ring_pages_of, window_of}
 use Rattle.script_lines.specs.declared.line.Line.{Line}
-use Rattle.script_lines.specs.declared.line.What.{What}
-use Rattle.bus_run.specs.declared.settings.Setting.{Setting}
-use Rattle.bus_run.specs.declared.settings.Setting.TheVariants.{Pages, Window}
 use Rattle.bus_run.specs.declared.settings.Settings.{Settings}
 
 -- what the lines set of the channels of a device
 abbrev pub settings_of : List Line → ℕ → Settings
 settings_of lines device = record { pages = ring_pages_of device lines; window = window_of device lines }
-
--- what a line sets of the channels of a device, by which setting it is
-abbrev pub set_by : Setting → ℕ → What → List ℕ
-set_by Pages = pages_by
-set_by Window = window_by
-
--- what the first of these lines sets that sets it, or else this
-abbrev pub set_of : Setting → ℕ → List Line → ℕ → ℕ
-set_of setting device lines default = slice_index_or (flat_map (λ l. set_by setting device l.what) lines) 0 default
 
 -- where no line sets anything
 abbrev pub unset : Settings

@@ -1,5 +1,5 @@
 -- A phase, and the phases that are left.
-use Rattle.std.specs.Prelude.{ℕ, ◌≡◌, ◌+◌, ◌*◌, ◌<◌, ◌≤◌, List, [], ◌∷◌, ◌++◌, length, map, take, drop, All, Option, Some, None, IfSome}
+use Rattle.std.specs.Prelude.{ℕ, ◌≡◌, ◌+◌, ◌*◌, ◌<◌, ◌≤◌, List, [], ◌∷◌, ◌++◌, length, map, take, drop, All, Option, IfSome, MatchOption, ⊤}
 use Rattle.std.specs.List.{flat_map}
 use Rattle.script_lines.specs.declared.line.Line.{Line}
 use Rattle.script_lines.specs.declared.line.What.{What}
@@ -10,6 +10,7 @@ use Rattle.script_lines.specs.Parts.{parts, offered, blocks_of, bads_of}
 use Rattle.script_lines.specs.WellFormed.{IsDevice}
 use Rattle.script_phases.specs.Agreed.{agreed_in}
 use Rattle.script_phases.specs.Openings.{Phase, others, phases}
+use Rattle.phase_plan.specs.Opened.{parts_left}
 use Rattle.bus_model.specs.Run.{PhaseRuns, RunsOf}
 use Rattle.bus_model.specs.declared.channel_run.ChannelRun.{ChannelRun}
 use Rattle.bus_plan.specs.Endings.{AreEnded}
@@ -58,21 +59,6 @@ pub record AreFresh (lines : List Line) (kinds : List DeviceSpec) (boxes : List 
   pub logs : map box_log boxes ≡ map (λ k. []) kinds
   pub ready : All (IsReady 0) boxes
 
--- the phases that are left, where the next one begins at this line
-abbrev pub parts_left : List Line → Option ℕ → List (List Line)
-parts_left lines None = []
-parts_left lines (Some at) = parts (drop at lines)
-
--- it begins at one of the lines, or behind the last
-abbrev pub NextWithin : List Line → Option ℕ → Type 0
-NextWithin lines None = Unit {0}
-NextWithin lines (Some at) = at ≤ length lines
-
--- a place counted from another one
-abbrev pub behind : ℕ → Option ℕ → Option ℕ
-behind at None = None
-behind at (Some n) = Some (at + n)
-
 -- the lines of the first phases, so many
 abbrev pub earlier_lines : List Line → ℕ → List Line
 earlier_lines lines phase = flat_map (λ part. part) (take phase (parts lines))
@@ -86,7 +72,7 @@ pub record RunsSoFar (lines : List Line) (r : Runner) : Type 0 where
   pub runs : RunsOf (take r.phase (phases lines)) (map (λ k. []) (offered lines)) r.settled.items (map box_log r.boxes.items) r.results.items
   pub worked : AllRanAsSet lines (take r.phase (phases lines)) r.work.items r.settled.items
   pub left : parts_left lines r.next ≡ drop r.phase (parts lines)
-  pub within : NextWithin lines r.next
+  pub within : MatchOption r.next ⊤ (λ at. at ≤ length lines)
   pub counted : r.phase ≤ length (parts lines)
   pub kinds : map spec_of r.boxes.items ≡ offered lines
   pub setups : map setup_of r.boxes.items ≡ setups_from lines 0 (offered lines)

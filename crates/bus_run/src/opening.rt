@@ -77,12 +77,11 @@ fn told_lists(kind: DeviceKind, path: &ControlPath, relid: u32) -> BufferLists
     ensures { result ≡ lists_on kind path.now.guest.posted relid }
 {
     match kind {
-        DeviceKind::Beat | DeviceKind::Down | DeviceKind::Disk | DeviceKind::Kvp =>
-            BufferLists::NONE,
         DeviceKind::Net => {
             let (receive, send) = path.last_lists(relid);
             BufferLists { receive, send }
         }
+        _ => BufferLists::NONE,
     }
 }
 

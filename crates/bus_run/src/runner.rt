@@ -1,5 +1,5 @@
 //! The run of a script, phase by phase.
-ghost use Rattle.std.specs.Prelude.{◌≡◌, ◌+◌, ◌<◌, ◌≤◌, ◌∷◌, [], ◌++◌, List, length, map, take, drop, replicate, None, All, IfOk, OnOk, IsTrue, vec_capacity, ◌↔◌, count_by, MatchOption, ⊤};
+ghost use Rattle.std.specs.Prelude.{◌≡◌, ◌+◌, ◌<◌, ◌≤◌, ◌∷◌, [], ◌++◌, List, length, map, take, drop, replicate, None, All, IfOk, OnOk, IsTrue, vec_capacity, ◌↔◌, count_by};
 ghost use Rattle.device_kinds.specs.Logs.{log_of, EachHistory};
 ghost use Rattle.bus_model.specs.Run.{IsBusRun};
 ghost use Rattle.script_lines.specs.Parts.{parts, offered, offered_by};
@@ -12,7 +12,7 @@ ghost use Rattle.device_any.specs.Boxes.{IsKept, box_log, setup_of, spec_of};
 ghost use Rattle.bus_run.specs.Opened.{AllRanAsSet};
 ghost use Rattle.bus_run.specs.Parts.{AreOpen};
 ghost use Rattle.control_path.specs.Path.{IsSamePath};
-ghost use Rattle.bus_run.specs.Whole.{AreFresh, CanMake, RunsSoFar, behind, setups_from};
+ghost use Rattle.bus_run.specs.Whole.{AreFresh, CanMake, RunsSoFar, setups_from};
 
 use crate::bads::bad_places;
 use crate::phase::run_script_phase;
@@ -25,7 +25,7 @@ use contact::Version;
 use control_path::ControlPath;
 use device_any::DeviceBox;
 use io_edge::Gate;
-use phase_plan::first_part;
+use phase_plan::part_at;
 use std::alloc::{AllocError, Global};
 use std::snapshot::Snapshot;
 use std::sync::Wait;
@@ -165,17 +165,6 @@ fn new_results(alloc: Global, lines: &[Line]) -> Result<Vec<LineResult>, AllocEr
     Vec::with_capacity(alloc, count)
 }
 
-/// A place counted from another one.
-fn behind(at: usize, next: Option<usize>) -> Option<usize>
-    requires { MatchOption next ⊤ (λ n. at + n ≤ 20000) }
-    ensures { result ≡ behind at next }
-{
-    match next {
-        Some(n) => Some(at + n),
-        None => None,
-    }
-}
-
 impl Runner {
     /// Offers the devices of a script, of which no phase has run. The parts of `path` are to stand round its phases.
     pub fn make(alloc: Global, script: &Script, path: &ControlPath) -> Result<Runner, AllocError>
@@ -185,9 +174,10 @@ impl Runner {
     {
         let lines = script.lines();
         let boxes = new_boxes(alloc, lines)?;
-        let settings = all_settings(alloc, boxes.len(), lines)?;
-        let ended = none_ended(alloc, boxes.len())?;
-        let relid = first_relid(boxes.len());
+        let count = boxes.len();
+        let settings = all_settings(alloc, count, lines)?;
+        let ended = none_ended(alloc, count)?;
+        let relid = first_relid(count);
         let results = new_results(alloc, lines)?;
         Ok(Runner {
             version: agreed(lines),
@@ -240,8 +230,7 @@ impl Runner {
         let Some(at) = self.next else {
             unreachable!();
         };
-        let (_, rest) = script.lines().split_at(at);
-        let (part, next) = first_part(rest);
+        let (part, next) = part_at(script.lines(), at);
         run_script_phase(
             rt,
             gate,
@@ -260,7 +249,7 @@ impl Runner {
             path,
         )?;
         self.phase += 1;
-        self.next = behind(at, next);
+        self.next = next;
         Ok(())
     }
 

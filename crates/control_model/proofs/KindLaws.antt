@@ -39,12 +39,8 @@ service_kind port small =
 
 -- a class id names its kind
 pub kind_of_class : (kind : Kind) (id : List ℕ) → HasPort kind → id ≡ class_id kind → kind_with id ≡ Some kind
-kind_of_class Beat id fits e = ap kind_with e
-kind_of_class Down id fits e = ap kind_with e
-kind_of_class Disk id fits e = ap kind_with e
-kind_of_class Net id fits e = ap kind_with e
-kind_of_class Kvp id fits e = ap kind_with e
 kind_of_class (Sock port) id fits e = ap kind_with e ∙ service_kind port fits
+kind_of_class _ id fits e = ap kind_with e
 
 -- what is no class id names none
 no_service : (id : List ℕ) → ((kind : Kind) → id ≢ class_id kind) → service_with id ≡ None

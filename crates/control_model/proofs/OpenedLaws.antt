@@ -5,7 +5,7 @@ use Rattle.std.proofs.lemmas.List.Elements.{All-nil, All-cons}
 use Rattle.std.proofs.lemmas.List.Sums.{sum_by-cons}
 use Rattle.std.specs.List.{AllByRecursion}
 use Rattle.script_lines.specs.declared.line.DeviceSpec.{DeviceSpec}
-use Rattle.script_lines.specs.declared.line.DeviceSpec.TheVariants.{Beat, Down, Disk, Net, Kvp}
+use Rattle.script_lines.specs.declared.line.DeviceSpec.TheVariants.{Net}
 use Rattle.script_lines.specs.Parts.{channels_of}
 use Rattle.script_phases.specs.Openings.{Opening as PhaseOpening, subs_of, subs_from, channels_from, opened_from, others}
 use Rattle.control_model.specs.declared.opening.Opening.{Opening}
@@ -209,11 +209,8 @@ bare_plain sizes fates gpadl page device next spec on none rest =
 
 bare_channels : (sizes : ℕ → ℕ) (fates : ℕ → Fate) (gpadl page device next : ℕ) (spec : DeviceSpec) (on : List PhaseOpening) → ((g q : ℕ) → first_subs (openings_from sizes fates g q on) ≡ []) → ((g q : ℕ) → Bare (openings_from sizes fates g q on))
     → Bare (openings_from sizes fates gpadl page (channels_from device spec next ++ on))
-bare_channels sizes fates gpadl page device next Beat on first rest = bare_plain sizes fates gpadl page device next Beat on refl rest
-bare_channels sizes fates gpadl page device next Down on first rest = bare_plain sizes fates gpadl page device next Down on refl rest
-bare_channels sizes fates gpadl page device next Kvp on first rest = bare_plain sizes fates gpadl page device next Kvp on refl rest
-bare_channels sizes fates gpadl page device next (Disk blocks subs) on first rest = bare_plain sizes fates gpadl page device next (Disk blocks subs) on refl rest
 bare_channels sizes fates gpadl page device next (Net mac station) on first rest = ((λ e. first (gpadl + 3) (page + pages_with true (sizes device))), rest (gpadl + 3) (page + pages_with true (sizes device)))
+bare_channels sizes fates gpadl page device next spec on first rest = bare_plain sizes fates gpadl page device next spec on refl rest
 
 bare_if : (sizes : ℕ → ℕ) (fates : ℕ → Fate) (gpadl page device next : ℕ) (spec : DeviceSpec) (on off : List PhaseOpening) (b : Bool) → ((g q : ℕ) → first_subs (openings_from sizes fates g q on) ≡ []) → ((g q : ℕ) → Bare (openings_from sizes fates g q on)) → ((g q : ℕ) → Bare (openings_from sizes fates g q off))
     → Bare (openings_from sizes fates gpadl page (if b then channels_from device spec next ++ on else off))

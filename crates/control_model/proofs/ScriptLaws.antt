@@ -7,14 +7,14 @@ use Rattle.std.proofs.lemmas.List.Folds.{list_any-append}
 use Rattle.std.proofs.lemmas.Bool.Decides.{nat_tests}
 use Rattle.std.specs.List.{flat_map, list_any, onto_first, range_with_len, AllByRecursion}
 use Rattle.contact.specs.declared.kind.DeviceKind.{DeviceKind}
-use Rattle.contact.specs.declared.kind.DeviceKind.TheVariants.{Beat as BeatDevice, Down as DownDevice, Disk as DiskDevice, Net as NetDevice, Kvp as KvpDevice}
+use Rattle.contact.specs.declared.kind.DeviceKind.TheVariants.{Beat as BeatDevice}
 use Rattle.contact.specs.Classes.{offered_kind}
 use Rattle.contact.specs.Versions.{IsVersion}
 use Rattle.script_lines.specs.declared.line.Line.{Line}
 use Rattle.script_lines.specs.declared.line.What.{What}
 use Rattle.script_lines.specs.declared.line.What.TheVariants.{Contact as IsContact, Offer as IsOffer, Bad as IsBad, RingSize as IsRingSize, Window as IsWindow, Ask as IsAsk, Rescind as IsRescind, Shut as IsShut, Modify as IsModify, Phase as IsPhase}
 use Rattle.script_lines.specs.declared.line.DeviceSpec.{DeviceSpec}
-use Rattle.script_lines.specs.declared.line.DeviceSpec.TheVariants.{Beat, Down, Disk, Net, Kvp}
+use Rattle.script_lines.specs.declared.line.DeviceSpec.TheVariants.{Disk}
 use Rattle.script_lines.specs.Lines.{is_rescind, said}
 use Rattle.script_lines.specs.Parts.{parts, ends_part, offered, offered_by, kind_of, channels_of, ring_pages_of, pages_by}
 use Rattle.script_lines.specs.WellFormed.{IsDevice, IsRight, AllRight, IsScript}
@@ -251,10 +251,7 @@ phases_are lines =
 -- a script's devices are no services at a port
 no_port : (kind : DeviceKind) → HasPort (offered_kind kind)
 no_port BeatDevice = tt
-no_port DownDevice = tt
-no_port DiskDevice = tt
-no_port NetDevice = tt
-no_port KvpDevice = tt
+no_port _ = tt
 
 no_ports : (specs : List DeviceSpec) → All HasPort (map (λ (spec : DeviceSpec). offered_kind (kind_of spec)) specs)
 no_ports [] = All-nil HasPort
@@ -289,11 +286,8 @@ plan_is lines script =
 
 -- a disk has at most 3 sub-channels
 subs_right : (spec : DeviceSpec) → IsDevice spec → subs_of spec ≤ 3
-subs_right Beat is = omega arith
-subs_right Down is = omega arith
 subs_right (Disk blocks subs) is = is.2
-subs_right (Net mac station) is = omega arith
-subs_right Kvp is = omega arith
+subs_right _ is = omega arith
 
 subs_offered : (kinds : List DeviceSpec) (what : What) → IsRight kinds what → All (λ spec. subs_of spec ≤ 3) (offered_by what)
 subs_offered kinds (IsContact guest host) right = All-nil (λ spec. subs_of spec ≤ 3)

@@ -1,5 +1,5 @@
 //! The plan of a script.
-ghost use Rattle.std.specs.Prelude.{◌≡◌, ◌+◌, ◌*◌, ◌^◌, ◌<◌, ◌≤◌, All, ◌∷◌, [], ◌++◌, ℕ, List, length, map, replicate, false, None, IfOk, OnOk};
+ghost use Rattle.std.specs.Prelude.{◌≡◌, ◌+◌, ◌*◌, ◌^◌, ◌<◌, ◌≤◌, All, ◌∷◌, [], ◌++◌, ℕ, List, length, map, None, IfOk, OnOk};
 ghost use Rattle.std.specs.List.{range_with_len};
 ghost use Rattle.contact.specs.Classes.{offered_kind};
 ghost use Rattle.script_lines.specs.declared.line.Line.{Line as OneLine};
@@ -19,6 +19,7 @@ use bus_script::{DeviceSpec, Line, What};
 use contact::{Kind, Version, offered_kind};
 use phase_plan::{
     DeviceLines, Opening as PhaseOpening, deal_lines, end_devices, part_at, phase_openings,
+    ring_pages,
 };
 use script_lines::shape_of;
 use std::alloc::{AllocError, Global};
@@ -90,20 +91,6 @@ fn all_sizes(alloc: Global, lines: &[Line], count: u32) -> Result<Vec<u32>, Allo
     Ok(sizes)
 }
 
-// The data pages of each ring of a device: those that its line says, or 1.
-fn ring_pages(lines: &[Line], device: u32) -> u32
-    ensures { result ≡ ring_pages_of device lines.now }
-{
-    for line in lines {
-        if let What::RingSize { device: d, pages } = &line.what {
-            if *d == device {
-                return *pages;
-            }
-        }
-    }
-    1
-}
-
 /// What the lines of a phase do to a device.
 #[derive(Clone, Copy)]
 pub struct Fate {
@@ -142,7 +129,7 @@ pub fn phases(
 {
     let subs = all_subs(alloc, specs)?;
     let sizes = all_sizes(alloc, lines, specs.len() as u32)?;
-    let mut ended = none_ended(alloc, specs.len())?;
+    let mut ended = vec![in alloc; false; specs.len()]?;
     let mut next = Next {
         gpadl: FIRST_GPADL,
         page: 0,
@@ -173,17 +160,6 @@ pub fn phases(
         left = behind;
     }
     Ok(phases)
-}
-
-// So many devices, none of which has ended.
-fn none_ended(alloc: Global, count: usize) -> Result<Vec<bool>, AllocError>
-    ensures { IfOk result (λ ended. ended.items ≡ replicate count false) }
-{
-    let mut ended = Vec::new(alloc);
-    for _ in 0..count {
-        ended.push(false)?;
-    }
-    Ok(ended)
 }
 
 // The openings of a phase's channels, in order: each takes the next handles and the next pages. `sizes` has the data pages of each device's rings, and `devices` what the lines of

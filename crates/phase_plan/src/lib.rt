@@ -6,6 +6,7 @@ mod device_line;
 mod device_lines;
 mod opening;
 mod openings;
+mod settings;
 mod split;
 
 pub use dealing::deal_lines;
@@ -13,4 +14,5 @@ pub use device_line::{DeviceLine, to_device};
 pub use device_lines::DeviceLines;
 pub use opening::Opening;
 pub use openings::{end_devices, phase_openings};
-pub use split::{first_part, part_at};
+pub use settings::{ring_pages, window};
+pub use split::part_at;

@@ -13,7 +13,7 @@ fn is_phase(what: &What) -> bool
 }
 
 /// The lines of the first phase, and the place behind the line that ends it; none where no line does.
-pub fn first_part(lines: &[Line]) -> (&[Line], Option<usize>)
+fn first_part(lines: &[Line]) -> (&[Line], Option<usize>)
     ensures parts { MatchOption result.1 (parts lines.now ≡ result.0.now ∷ []) (λ next. parts lines.now ≡ result.0.now ∷ parts (drop next lines.now)) }
     ensures front { (n : ℕ) × (result.0.now ≡ take n lines.now) }
     ensures within { MatchOption result.1 ⊤ (λ next. next ≤ length lines.now) }
@@ -30,6 +30,7 @@ pub fn first_part(lines: &[Line]) -> (&[Line], Option<usize>)
 pub fn part_at(lines: &[Line], at: usize) -> (&[Line], Option<usize>)
     requires { at ≤ length lines.now }
     ensures parts { parts_left lines.now (Some at) ≡ result.0.now ∷ parts_left lines.now result.1 }
+    ensures front { (n : ℕ) × (result.0.now ≡ take n (drop at lines.now)) }
     ensures within { MatchOption result.1 ⊤ (λ next. next ≤ length lines.now) }
 {
     let (_, rest) = lines.split_at(at);

@@ -65,10 +65,11 @@ loop-left-init c =
     let lines = c.args.lines.now in
     let count = ap length c.requires.specs in
     let none = ap (map (λ phase. phase.items)) c.new-phases.ensures.items in
+    let none_ended = c.in_ok-ended.ensures.items_if_clones_equal (λ b is. is) in
     record {
-      so_far = none_so_far lines (map (λ phase. phase.items) c.new-phases.result.items) c.in_ok-ended.ended.items (length c.args.specs.now + 1) none (ap (λ n. n + 1) count) (subst (AreEnded []) (sym c.in_ok-ended.ensures) (none_over (length c.args.specs.now)));
+      so_far = none_so_far lines (map (λ phase. phase.items) c.new-phases.result.items) c.in_ok-ended.ended.items (length c.args.specs.now + 1) none (ap (λ n. n + 1) count) (subst (AreEnded []) (sym none_ended) (none_over (length c.args.specs.now)));
       within = omega arith;
-      ended = ap length c.in_ok-ended.ensures ∙ length-replicate (length c.args.specs.now) false;
+      ended = ap length none_ended ∙ length-replicate (length c.args.specs.now) false;
       few = omega (arith, c.new-phases.ensures.len);
       gpadl = omega (arith, c.new-phases.ensures.len);
       page = omega (arith, c.new-phases.ensures.len);
