@@ -31,7 +31,7 @@ fn data_pages(kind: DeviceKind, window: u32) -> u32
     match kind {
         DeviceKind::Disk => window,
         DeviceKind::Net => 128,
-        DeviceKind::Beat | DeviceKind::Down | DeviceKind::Kvp => 0,
+        _ => 0,
     }
 }
 

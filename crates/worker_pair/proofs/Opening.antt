@@ -1,14 +1,14 @@
 -- What stands in a script can be asked, and what a start-up asks has answers.
-use Rattle.std.proofs.Common.{◌≡◌, ◌+◌, ap, map, ◌<◌, ◌≤◌, ℕ, zero, suc, List, [], ◌∷◌, length, filter, get_or, take, ◌++◌, ◌∙◌, Option, Some, None, is_some, Result, Ok, Err, refl, sym, subst, arith}
+use Rattle.std.proofs.Common.{◌≡◌, ◌+◌, ◌-◌, Bool, ap, map, ◌<◌, ◌≤◌, ℕ, zero, suc, List, [], ◌∷◌, length, filter, get_or, take, ◌++◌, ◌∙◌, Option, Some, None, is_some, Result, Ok, Err, refl, sym, subst, arith}
 use Rattle.std.proofs.lemmas.List.{length-append, length-map, take_all, take_more}
 use Rattle.std.specs.Prelude.{IfOk}
 use Rattle.std.specs.List.{AllByRecursion}
 use Rattle.wire_table.proofs.RowLaws.{IsBytes, all_bytes}
 use Rattle.chan_state.specs.declared.stop.Stop.{Stop}
 use Rattle.contact.specs.declared.kind.DeviceKind.{DeviceKind}
-use Rattle.contact.specs.declared.kind.DeviceKind.TheVariants.{Beat, Down, Disk, Net, Kvp}
+use Rattle.contact.specs.declared.kind.DeviceKind.TheVariants.{Disk, Net}
 use Rattle.scsi_disk.specs.declared.command.Command.{Command}
-use Rattle.scsi_disk.specs.declared.command.Command.TheVariants.{TestUnitReady, Inquiry, ReadCapacity, Read, Write, SynchronizeCache, LongCapacity}
+use Rattle.scsi_disk.specs.declared.command.Command.TheVariants.{Write}
 use Rattle.scsi_disk.specs.declared.request.DiskRequest.{DiskRequest}
 use Rattle.stor_proto.specs.Srbs.{bytes_moved, data_for}
 use Rattle.script_lines.specs.Parts.{kind_asked}
@@ -21,18 +21,19 @@ use Rattle.device_kinds.specs.Kinds.{DeviceWant}
 use Rattle.device_wire.specs.declared.buffer_lists.BufferLists.{BufferLists}
 use Rattle.device_wire.specs.declared.want.Want.TheVariants.{Request as Script}
 use Rattle.device_kinds.proofs.KindLaws.{same_starts, answers_counted}
-use Rattle.worker_pair.specs.Plans.{AllCarried, silent, stop_of}
+use Rattle.worker_pair.specs.Plans.{AllCarried, ServesFor, planned, silent, stop_of}
+use Rattle.worker_pair.specs.declared.channel_plan.ChannelPlan.{ChannelPlan}
+use Rattle.worker_server.specs.Serving.{Serving}
+use Rattle.channel_model.specs.Channel.{count_of, held_of}
+use Rattle.bus_script.specs.declared.outcome.Reply.{Reply}
+use Rattle.device_any.specs.Seats.{served_at}
+use Rattle.device_any.specs.declared.device_seat.DeviceSeat.{DeviceSeat}
+use Rattle.ring_seat.specs.declared.table_seat.TableSeat.{TableSeat}
 
 -- a command moves as many bytes on its channel as the script says
 moved : (k : Option Command) (n : ℕ) → n ≡ bytes_written k → bytes_moved k n ≤ most_moved k
-moved None n is = omega arith
-moved (Some TestUnitReady) n is = omega arith
-moved (Some (Inquiry s a)) n is = omega (arith)
-moved (Some ReadCapacity) n is = omega arith
-moved (Some (Read l c)) n is = omega arith
 moved (Some (Write l c)) n is = omega (arith, is)
-moved (Some SynchronizeCache) n is = omega arith
-moved (Some (LongCapacity b a)) n is = omega arith
+moved _ n is = omega arith
 
 none_is : (out : List ℕ) → length out ≡ 0 → [] ≡ out
 none_is [] is = refl
@@ -40,14 +41,8 @@ none_is (b ∷ out) is = absurd (omega arith)
 
 -- and has the data that it writes
 own : (k : Option Command) (out : List ℕ) → length out ≡ bytes_written k → data_for k (length out) out ≡ out
-own None out is = none_is out is
-own (Some TestUnitReady) out is = none_is out is
-own (Some (Inquiry s a)) out is = none_is out is
-own (Some ReadCapacity) out is = none_is out is
-own (Some (Read l c)) out is = none_is out is
 own (Some (Write l c)) out is = take_all (length out) out (omega arith)
-own (Some SynchronizeCache) out is = none_is out is
-own (Some (LongCapacity b a)) out is = none_is out is
+own _ out is = none_is out is
 
 pub carried_can : (q : DiskRequest) → CanBeCarried q → IsBytes q.cdb → IsBytes q.out → IsPageAsk q
 carried_can q carried cdb_bytes out_bytes = record {
@@ -60,15 +55,10 @@ carried_can q carried cdb_bytes out_bytes = record {
 }
 
 -- each request at a place of a list of which all are carried
-pub carried_kind : (kind : DeviceKind) (asks : List Ask) (i : ℕ) (d : Ask) → AllCarried kind asks → i < length asks → kind_asked (get_or asks i d) ≡ kind
-carried_kind kind [] i d all below = absurd (omega arith)
-carried_kind kind (a ∷ asks) zero d all below = all.0
-carried_kind kind (a ∷ asks) (suc i) d all below = carried_kind kind asks i d all.2 (omega arith)
-
-pub carried_goes : (kind : DeviceKind) (asks : List Ask) (i : ℕ) (d : Ask) → AllCarried kind asks → i < length asks → CanGo (get_or asks i d)
-carried_goes kind [] i d all below = absurd (omega arith)
-carried_goes kind (a ∷ asks) zero d all below = all.1
-carried_goes kind (a ∷ asks) (suc i) d all below = carried_goes kind asks i d all.2 (omega arith)
+pub carried_at : (kind : DeviceKind) (asks : List Ask) (i : ℕ) (d : Ask) → AllCarried kind asks → i < length asks → (kind_asked (get_or asks i d) ≡ kind) × CanGo (get_or asks i d)
+carried_at kind [] i d all below = absurd (omega arith)
+carried_at kind (a ∷ asks) zero d all below = (all.0, all.1)
+carried_at kind (a ∷ asks) (suc i) d all below = carried_at kind asks i d all.2 (omega arith)
 
 -- how much a protocol has to ask
 pub asks_length : (kind : DeviceKind) (sub subs : ℕ) (lists : BufferLists) (asks : List Ask) (protocol : ChannelScript) → protocol ≡ record { kind = kind; sub = sub; subs = subs; lists = lists; asks = asks }
@@ -88,24 +78,33 @@ all_more {A} P xs i x below is all here =
 
 -- all requests of a start-up have answers, but for the version that a network is told
 pub starts_all : (kind : DeviceKind) (sub subs : ℕ) → length (filter (has_answer_on kind) (startup kind sub subs no_lists)) + silent kind sub ≡ length (startup kind sub subs no_lists)
-starts_all Beat zero subs = ap (λ n. n + 0) (answers_counted Beat subs no_lists)
-starts_all Down zero subs = ap (λ n. n + 0) (answers_counted Down subs no_lists)
 starts_all Disk zero zero = ap (λ n. n + 0) (answers_counted Disk 0 no_lists)
 starts_all Disk zero (suc n) = ap (λ n. n + 0) (answers_counted Disk (suc n) no_lists)
 starts_all Net zero subs = ap (λ n. n + 1) (answers_counted Net subs no_lists)
-starts_all Kvp zero subs = ap (λ n. n + 0) (answers_counted Kvp subs no_lists)
-starts_all Beat (suc s) subs = refl
-starts_all Down (suc s) subs = refl
-starts_all Disk (suc s) subs = refl
+starts_all kind zero subs = ap (λ n. n + 0) (answers_counted kind subs no_lists)
 starts_all Net (suc s) subs = refl
-starts_all Kvp (suc s) subs = refl
+starts_all _ (suc s) subs = refl
 
 -- a stop is told where there is one
 pub stops_told : (stop : Option Stop) → is_some stop ≡ is_some (stop_of stop)
 stops_told None = refl
 stops_told (Some s) = refl
 
--- what follows where a call gives a value
-pub if_ok : {A E : Type 0} (P Q : A → Type 0) (r : Result A E) → ((a : A) → P a → Q a) → IfOk r P → IfOk r Q
-if_ok P Q (Ok a) follows is = follows a is
-if_ok P Q (Err e) follows is = tt
+-- what is made of so many requests of the start-up, of which so many have no answer, serves a plan
+pub made_for : (q : ChannelPlan) (asks : List Ask) (seat : DeviceSeat) (t : ChannelScript) (w : Serving ChannelScript DeviceSeat TableSeat Ask Reply) (all none serve : ℕ) (held stops : Bool) → t.kind ≡ q.kind → t.sub ≡ q.sub → t.subs ≡ q.subs
+    → all ≡ length (startup t.kind t.sub t.subs t.lists) → none ≡ silent q.kind q.sub → serve ≡ count_of (stop_of q.stop) q.count → held ≡ held_of (stop_of q.stop) q.count → stops ≡ is_some q.stop
+    → (w.responder.protocol ≡ t) × (w.responder.seat ≡ seat) × (w.responder.before ≡ served_at seat) → w.responder.relid ≡ q.relid → (w.serve ≡ serve) × (w.responder.held ≡ held) × (w.stops ≡ stops) × (w.starts ≡ all - none) × (w.come ≡ q.count + none) → ServesFor (planned q asks) seat w
+made_for q asks seat t w all none serve held stops kind sub subs count silents serve_is held_is stops_is is relid orders =
+    let told : all ≡ length (startup q.kind q.sub q.subs no_lists) = count ∙ (same_starts t.kind t.sub t.subs t.lists no_lists ∙ (λ i. length (startup (kind i) (sub i) (subs i) no_lists))) in
+    let answered = starts_all q.kind q.sub q.subs in
+    record {
+      answers = ap (λ (t : ChannelScript). t.kind) is.0 ∙ kind;
+      relid = relid;
+      seat_is = is.1;
+      before = is.2;
+      serve = orders.0 ∙ serve_is;
+      held = orders.1 ∙ held_is;
+      stops = orders.2 ∙ (stops_is ∙ stops_told q.stop);
+      starts = omega (arith, orders.3, told, silents, answered);
+      come = omega (arith, orders.3, orders.4, told, silents, answered);
+    }

@@ -1,11 +1,11 @@
 -- The two workers of a channel.
-use Rattle.std.specs.Prelude.{ℕ, ◌≡◌, ◌≤◌, ◌+◌, false, length, None, Some}
+use Rattle.std.specs.Prelude.{ℕ, ◌≡◌, ◌≤◌, ◌+◌, false, List, [], length, Option, None, Some}
 use Rattle.io_edge.specs.declared.side.Side.{Side}
 use Rattle.io_edge.specs.declared.side.Side.TheVariants.{Guest, Host}
 use Rattle.ring_core.specs.Seen.{Seen}
 use Rattle.worker_port.specs.Line.{paged_end}
 use Rattle.contact.specs.declared.kind.DeviceKind.{DeviceKind}
-use Rattle.contact.specs.declared.kind.DeviceKind.TheVariants.{Beat, Down, Disk, Net, Kvp}
+use Rattle.contact.specs.declared.kind.DeviceKind.TheVariants.{Disk, Net}
 use Rattle.ring_seat.specs.declared.table_seat.TableSeat.{TableSeat}
 use Rattle.script_lines.specs.declared.line.Ask.{Ask}
 use Rattle.bus_script.specs.declared.outcome.Reply.{Reply}
@@ -45,13 +45,18 @@ abbrev pub AreMadeAt : Side → Planned → DeviceSeat → Worker → Worker →
 AreMadeAt Guest p seat guest host = IsMade p None guest × IsMade p (Some seat) host
 AreMadeAt Host p seat guest host = IsMade p (Some seat) guest × IsMade p None host
 
+-- what the worker of a side is made with, where this other side asks: the requests where it is the same, and else the seat
+abbrev pub dealt : Side → Side → DeviceSeat → List Ask → Option DeviceSeat × List Ask
+dealt Guest Guest seat asks = (None, asks)
+dealt Guest Host seat asks = (Some seat, [])
+dealt Host Guest seat asks = (Some seat, [])
+dealt Host Host seat asks = (None, asks)
+
 -- how many data pages a channel has on which so many requests can be open: a disk's has one for each, and a network's all 128, the guest's 64 before the host's. A service's has none
 abbrev pub pages_on : DeviceKind → ℕ → ℕ
-pages_on Beat window = 0
-pages_on Down window = 0
 pages_on Disk window = window
 pages_on Net window = 128
-pages_on Kvp window = 0
+pages_on _ window = 0
 
 -- a new end of this side, of rings of 1 to 16 pages and of so many data pages
 abbrev pub IsNewEnd : Side → ℕ → Seen TableSeat → Type 0

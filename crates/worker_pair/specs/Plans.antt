@@ -1,15 +1,11 @@
 -- What the workers of a channel are made for.
-use Rattle.std.specs.Prelude.{ℕ, zero, suc, ◌≡◌, ◌≤◌, ◌+◌, Bool, true, List, [], ◌∷◌, length, map, filter, Option, Some, None, is_some}
+use Rattle.std.specs.Prelude.{ℕ, zero, ◌≡◌, ◌≤◌, ◌+◌, Bool, true, List, [], ◌∷◌, length, map, filter, Option, Some, None, is_some}
 use Rattle.ring_seat.specs.declared.table_seat.TableSeat.{TableSeat}
 use Rattle.std.specs.List.{AllByRecursion}
 use Rattle.script_lines.specs.Parts.{kind_asked}
 use Rattle.script_lines.specs.WellFormed.{CanGo}
 use Rattle.script_lines.specs.declared.line.Ask.{Ask}
 use Rattle.script_lines.specs.declared.line.Ask.TheVariants.{Ic as AskIc, Disk as AskDisk, Net as AskNet, Kvp as AskKvp}
-use Rattle.util_ic.specs.declared.ic.IcAsk.{IcAsk}
-use Rattle.kvp_ic.specs.declared.message.Kvp.{Kvp as Message}
-use Rattle.rndis_msg.specs.declared.rndis.Rndis.{Rndis}
-use Rattle.scsi_disk.specs.declared.request.DiskRequest.{DiskRequest}
 use Rattle.bus_script.specs.declared.outcome.Reply.{Reply}
 use Rattle.device_kinds.specs.Formats.{has_answer_on, ChannelScript, no_lists, startup}
 use Rattle.device_kinds.specs.Kinds.{IsAskable}
@@ -54,27 +50,24 @@ pub record Planned : Type 0 where
   pub stop : Option (ℕ × Bool)
   pub asks : List Ask
 
--- what a guest asks a device of this kind: the commands for a disk, or the messages for an adapter. It asks no service
-abbrev pub guest_asks : DeviceKind → List DiskRequest → List Rndis → List Ask
-guest_asks BeatKind disk net = []
-guest_asks DownKind disk net = []
-guest_asks DiskKind disk net = map AskDisk disk
-guest_asks NetKind disk net = map AskNet net
-guest_asks KvpKind disk net = []
+-- what a guest asks a device of this kind, of its plan: the commands for a disk, or the messages for an adapter. It asks no service
+abbrev pub guest_asks : DeviceKind → GuestPlan → List Ask
+guest_asks DiskKind p = map AskDisk p.disk.items
+guest_asks NetKind p = map AskNet p.net.items
+guest_asks _ p = []
 
 -- what a host asks one: the requests to a heartbeat or a shutdown service, or those to a key-value service. It asks no device of its own
-abbrev pub host_asks : DeviceKind → List IcAsk → List Message → List Ask
-host_asks BeatKind asks kvp = map AskIc asks
-host_asks DownKind asks kvp = map AskIc asks
-host_asks DiskKind asks kvp = []
-host_asks NetKind asks kvp = []
-host_asks KvpKind asks kvp = map AskKvp kvp
+abbrev pub host_asks : DeviceKind → HostPlan → List Ask
+host_asks BeatKind p = map AskIc p.asks.items
+host_asks DownKind p = map AskIc p.asks.items
+host_asks KvpKind p = map AskKvp p.kvp.items
+host_asks _ p = []
 
 abbrev pub guest_planned : GuestPlan → Planned
-guest_planned p = record { relid = p.relid; kind = p.kind; sub = p.sub; subs = p.subs; window = p.window; count = p.count; lists = record { receive = p.receive_list; send = p.send_list }; stop = None; asks = guest_asks p.kind p.disk.items p.net.items }
+guest_planned p = record { relid = p.relid; kind = p.kind; sub = p.sub; subs = p.subs; window = p.window; count = p.count; lists = record { receive = p.receive_list; send = p.send_list }; stop = None; asks = guest_asks p.kind p }
 
 abbrev pub host_planned : HostPlan → Planned
-host_planned p = record { relid = p.relid; kind = p.kind; sub = p.sub; subs = p.subs; window = p.window; count = p.count; lists = no_lists; stop = stop_of p.stop; asks = host_asks p.kind p.asks.items p.kvp.items }
+host_planned p = record { relid = p.relid; kind = p.kind; sub = p.sub; subs = p.subs; window = p.window; count = p.count; lists = no_lists; stop = stop_of p.stop; asks = host_asks p.kind p }
 
 abbrev pub planned : ChannelPlan → List Ask → Planned
 planned p asks = record { relid = p.relid; kind = p.kind; sub = p.sub; subs = p.subs; window = p.window; count = p.count; lists = p.lists; stop = stop_of p.stop; asks = asks }
@@ -95,12 +88,8 @@ pub record CanPlan (side : Side) (p : Planned) : Type 0 where
 
 -- how many requests of a start-up have no answer: that of a network tells the host a version
 abbrev pub silent : DeviceKind → ℕ → ℕ
-silent BeatKind sub = 0
-silent DownKind sub = 0
-silent DiskKind sub = 0
-silent KvpKind sub = 0
 silent NetKind zero = 1
-silent NetKind (suc s) = 0
+silent _ sub = 0
 
 -- the side that asks has no seat; the other one has a seat of a device of the plan's kind, with a call for each request. It may have made calls before
 abbrev pub HasSeat : Side → Planned → Option DeviceSeat → Type 0

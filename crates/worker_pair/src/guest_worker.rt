@@ -53,7 +53,6 @@ impl GuestWorker {
         ensures end { IfOk result (λ w. ((end_at w).state ≡ end.state) × ((end_at w).seat ≡ end.seat)) }
         ensures live { IfOk result IsLive }
     {
-        let asks = guest_asks(alloc, plan.kind, plan.disk, plan.net)?;
         let channel = ChannelPlan {
             relid: plan.relid,
             kind: plan.kind,
@@ -68,8 +67,17 @@ impl GuestWorker {
             stop: None,
         };
         let seat = seat.into_device();
-        let worker = make_worker(alloc, Side::Guest, end, seat, channel, asks)?;
-        Ok(GuestWorker::over(worker))
+        match guest_asks(alloc, plan) {
+            Ok(asks) => {
+                let worker = make_worker(alloc, Side::Guest, end, seat, channel, asks)?;
+                Ok(GuestWorker::over(worker))
+            }
+            Err(refused) => {
+                drop(end);
+                drop(seat);
+                Err(refused)
+            }
+        }
     }
 
     /// A turn. An end that is asleep polls its signal. Otherwise the worker takes a packet, sends one, serves one, ends, or falls asleep.

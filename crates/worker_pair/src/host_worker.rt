@@ -53,7 +53,6 @@ impl HostWorker {
         ensures end { IfOk result (λ w. ((end_at w).state ≡ end.state) × ((end_at w).seat ≡ end.seat)) }
         ensures live { IfOk result IsLive }
     {
-        let asks = host_asks(alloc, plan.kind, plan.asks, plan.kvp)?;
         let channel = ChannelPlan {
             relid: plan.relid,
             kind: plan.kind,
@@ -65,8 +64,17 @@ impl HostWorker {
             stop: plan.stop,
         };
         let seat = seat.into_device();
-        let worker = make_worker(alloc, Side::Host, end, seat, channel, asks)?;
-        Ok(HostWorker::over(worker))
+        match host_asks(alloc, plan) {
+            Ok(asks) => {
+                let worker = make_worker(alloc, Side::Host, end, seat, channel, asks)?;
+                Ok(HostWorker::over(worker))
+            }
+            Err(refused) => {
+                drop(end);
+                drop(seat);
+                Err(refused)
+            }
+        }
     }
 
     /// A turn. An end that is asleep polls its signal. Otherwise the worker takes a packet, sends one, serves one, ends, or falls asleep.

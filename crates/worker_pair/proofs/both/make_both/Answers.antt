@@ -1,33 +1,37 @@
-use Rattle.std.proofs.Common.{ap, refl, sym, ◌∙◌}
-use Rattle.device_any.specs.Seats.{device_place}
-use Rattle.worker_pair.specs.Pairs.{pages_on}
+use Rattle.std.proofs.Common.{refl, subst, sym}
+use Rattle.io_edge.specs.declared.side.Side.{Side}
+use Rattle.io_edge.specs.declared.side.Side.TheVariants.{Guest, Host}
+use Rattle.worker_pair.specs.Pairs.{AreMadeAt, ArePair, pages_on}
 use Rattle.worker_pair.specs.Plans.{planned}
-use Rattle.worker_pair.specs.Seats.{side_in}
-use Rattle.worker_pair.specs.declared.worker.Worker.TheVariants.{Asks, Serves}
-use Rattle.worker_pair.proofs.NewEnds.{host_has}
-use Rattle.worker_pair.proofs.Roles.{pair_of, plans_agree, same_pair}
+use Rattle.worker_pair.specs.declared.worker.Worker.{Worker}
+use Rattle.worker_pair.proofs.NewEnds.{fresh, its_size}
+use Rattle.worker_pair.proofs.Roles.{are_roles, can_make, made_at, pair_of}
 use Rattle.worker_pair.proofs.both.make_both.Goals as goal
 
--- the host has the seat, since the guest asks
-pub by_side-requires-clause-host : goal.by_side-requires-clause-host
-by_side-requires-clause-host c =
-    let made = c.in_ok-asker-in-Guest in
-    record {
-      end = ap (λ s. s.machine.side) made.ensures.serving.0 ∙ ap (λ s. s.machine.side) c.requires.host.3;
-      seat = ap (λ s. side_in (device_place s)) made.ensures.server.seat_is ∙ host_has c.args.seat c.args.plan.kind c.requires.seat.0 (sym c.side_that_asks.ensures ∙ c.in-Guest.is);
-    }
+pub make_worker-requires : goal.make_worker-requires
+make_worker-requires c =
+    let n = pages_on c.args.plan.kind c.args.plan.window in
+    let can = can_make c.side_that_asks-asks_at.result Guest c.args.plan c.args.seat c.args.asks.items _ _ c.side_that_asks-asks_at.ensures c.deal-guest_seat.ensures.guest c.requires.seat c.requires.plan in
+    record { plan = can.0; seat = can.1; side = can.2; fresh = fresh c.args.guest Guest n c.requires.guest; size = its_size c.args.guest Guest n c.requires.guest }
 
-pub returns-in_ok-asker-in-Guest-clause-pair : goal.returns-in_ok-asker-in-Guest-clause-pair
-returns-in_ok-asker-in-Guest-clause-pair c =
-    let made = c.in_ok-asker-in-Guest in
-    let agree = plans_agree (planned c.args.plan c.args.asks.items) c.args.seat made.asker made.server (sym (c.requires.plan.asks refl).0) made.ensures.asker made.ensures.server in
-    same_pair (Asks made.asker) (Serves made.server) c.by_side.result.0 c.by_side.result.1 c.by_side.ensures.0 c.by_side.ensures.1
-    (pair_of (pages_on c.args.plan.kind c.args.plan.window) c.args.guest c.args.host (Asks made.asker) (Serves made.server) c.requires.channel c.requires.guest c.requires.host made.ensures.asking made.ensures.serving made.ensures.live.0 made.ensures.live.1 agree)
+pub make_worker-requires-2 : goal.make_worker-requires-2
+make_worker-requires-2 c =
+    let n = pages_on c.args.plan.kind c.args.plan.window in
+    let can = can_make c.side_that_asks-asks_at.result Host c.args.plan c.args.seat c.args.asks.items _ _ c.side_that_asks-asks_at.ensures c.deal-guest_seat.ensures.host c.requires.seat c.requires.plan in
+    record { plan = can.0; seat = can.1; side = can.2; fresh = fresh c.args.host Host n c.requires.host; size = its_size c.args.host Host n c.requires.host }
 
-pub returns-in_ok-asker-in-Host-clause-pair : goal.returns-in_ok-asker-in-Host-clause-pair
-returns-in_ok-asker-in-Host-clause-pair c =
-    let made = c.in_ok-asker-in-Host in
-    let agree = plans_agree (planned c.args.plan c.args.asks.items) c.args.seat made.asker made.server (sym (c.requires.plan.asks refl).0) made.ensures.asker made.ensures.server in
-    let by_side = c.by_side-in-Host in
-    same_pair (Serves made.server) (Asks made.asker) by_side.result.0 by_side.result.1 by_side.ensures.0 by_side.ensures.1
-    (pair_of (pages_on c.args.plan.kind c.args.plan.window) c.args.guest c.args.host (Serves made.server) (Asks made.asker) c.requires.channel c.requires.guest c.requires.host made.ensures.serving made.ensures.asking made.ensures.live.1 made.ensures.live.0 agree)
+pub returns-in-Ok-make_worker-clause-made : goal.returns-in-Ok-make_worker-clause-made
+returns-in-Ok-make_worker-clause-made c =
+    let dealt = c.deal-guest_seat.ensures in
+    let made = made_at c.side_that_asks-asks_at.result c.args.plan c.args.seat c.args.asks.items _ _ _ _ c.in-Ok.guest c.in-Ok-make_worker.host dealt.guest dealt.host c.in-Ok.ensures.made c.in-Ok-make_worker.ensures.made in
+    subst (λ (p : Side × Worker × Worker). AreMadeAt p.0 (planned c.args.plan c.args.asks.items) c.args.seat p.1 p.2) (λ i. (c.side_that_asks-asks_at.ensures i, sym c.over.ensures i, sym c.over-in-Ok-make_worker.ensures i)) made
+
+pub returns-in-Ok-make_worker-clause-pair : goal.returns-in-Ok-make_worker-clause-pair
+returns-in-Ok-make_worker-clause-pair c =
+    let dealt = c.deal-guest_seat.ensures in
+    let guest = c.in-Ok in
+    let host = c.in-Ok-make_worker in
+    let made = made_at c.side_that_asks-asks_at.result c.args.plan c.args.seat c.args.asks.items _ _ _ _ guest.guest host.host dealt.guest dealt.host guest.ensures.made host.ensures.made in
+    let roles = are_roles _ (planned c.args.plan c.args.asks.items) c.args.seat guest.guest host.host (sym (c.requires.plan.asks refl).0) made in
+    subst (λ (p : Worker × Worker). ArePair p.0 p.1) (λ i. (sym c.over.ensures i, sym c.over-in-Ok-make_worker.ensures i))
+    (pair_of (pages_on c.args.plan.kind c.args.plan.window) c.args.guest c.args.host guest.guest host.host c.requires.channel c.requires.guest c.requires.host guest.ensures.end host.ensures.end guest.ensures.live host.ensures.live roles)
