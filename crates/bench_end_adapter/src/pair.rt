@@ -1,7 +1,7 @@
 //! Both ends of a new channel on atomic words, whose rings have 16 pages.
 use crate::port::EndPort;
 use ring_core::Room;
-use ring_seat::ChannelMem;
+use ring_seat::{ChannelMem, GuestEnd, HostEnd};
 use std::alloc::{AllocError, Global};
 
 // Room for so many packets of so many words, and for a ring beside them.
@@ -12,13 +12,24 @@ fn room_for(words: u64, count: u64) -> Room {
     }
 }
 
+// Makes this room at both ends, for packets that are sent, and for those that come.
+fn reserve(guest: &mut GuestEnd, host: &mut HostEnd, room: Room) -> Result<(), AllocError> {
+    guest.reserve(room, room)?;
+    host.reserve(room, room)
+}
+
 /// Both ends, with room for so many packets, sent and got.
 pub fn roomy(alloc: Global, words: u64, count: u64) -> Result<(EndPort, EndPort), AllocError> {
     let room = room_for(words, count);
     let (mut guest, mut host) = ChannelMem::make(alloc, 16, 0)?;
-    guest.reserve(room, room)?;
-    host.reserve(room, room)?;
-    Ok((EndPort::of(guest), EndPort::of(host)))
+    match reserve(&mut guest, &mut host, room) {
+        Ok(()) => Ok((EndPort::of(guest), EndPort::of(host))),
+        Err(refused) => {
+            drop(guest);
+            drop(host);
+            Err(refused)
+        }
+    }
 }
 
 /// Touches as much memory as the four lists of both ends take, so that no packet pays for pages that were never touched.

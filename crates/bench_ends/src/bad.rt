@@ -20,13 +20,23 @@ const ONE_PACKET: Room = Room {
     words: 8192,
 };
 
-// So many ends, each of a channel of its own.
+// An end of a channel of its own, with room for one packet.
+fn end(alloc: Global) -> Result<End<BadSeat>, AllocError> {
+    let mut end = End::make(alloc, Side::Host, RING, BadSeat, 0)?;
+    match end.reserve(NO_ROOM, ONE_PACKET) {
+        Ok(()) => Ok(end),
+        Err(refused) => {
+            drop(end);
+            Err(refused)
+        }
+    }
+}
+
+// So many ends.
 fn ends(alloc: Global, count: u64) -> Result<Vec<End<BadSeat>>, AllocError> {
     let mut ends = Vec::new(alloc);
     for _ in 0..count {
-        let mut end = End::make(alloc, Side::Host, RING, BadSeat, 0)?;
-        end.reserve(NO_ROOM, ONE_PACKET)?;
-        ends.push(end)?;
+        ends.push(end(alloc)?)?;
     }
     Ok(ends)
 }

@@ -40,9 +40,20 @@ impl Port for DriverPort {
         _count: u64,
     ) -> Result<(DriverPort, DriverPort), AllocError> {
         let (guest, host) = ChannelMem::make(alloc, 16, 0)?;
-        let guest = port_of(alloc, guest, Side::Guest)?;
-        let host = port_of(alloc, host, Side::Host)?;
-        Ok((guest, host))
+        let guest = match port_of(alloc, guest, Side::Guest) {
+            Ok(guest) => guest,
+            Err(refused) => {
+                drop(host);
+                return Err(refused);
+            }
+        };
+        match port_of(alloc, host, Side::Host) {
+            Ok(host) => Ok((guest, host)),
+            Err(refused) => {
+                drop(guest);
+                Err(refused)
+            }
+        }
     }
 
     fn send(&mut self, p: &[u64]) -> Sent {

@@ -68,7 +68,9 @@ fn round_from<R: Runtime>(
     requires { IsPacket p.now }
 {
     let mut h = end(alloc, Side::Host)?;
-    timed(rt, g, &mut h, p, count)
+    let time = timed(rt, g, &mut h, p, count);
+    drop(h);
+    time
 }
 
 // The nanoseconds a packet of one round. It is an error where a packet didn't arrive.
@@ -76,5 +78,7 @@ pub(crate) fn round<R: Runtime>(rt: &R, alloc: Global, p: &[u64], count: u64) ->
     requires { IsPacket p.now }
 {
     let mut g = end(alloc, Side::Guest)?;
-    round_from(rt, alloc, &mut g, p, count)
+    let time = round_from(rt, alloc, &mut g, p, count);
+    drop(g);
+    time
 }

@@ -98,5 +98,8 @@ pub(crate) fn round<R: Runtime>(
     count: u64,
 ) -> io::Result<u128> {
     let (mut g, mut h) = ChannelMem::make(alloc, 1, 1)?;
-    timed(rt, &mut g, &mut h, brings, count)
+    let time = timed(rt, &mut g, &mut h, brings, count);
+    drop(g);
+    drop(h);
+    time
 }

@@ -58,7 +58,10 @@ pub(crate) fn round<R: Runtime>(rt: &R, alloc: Global, p: &[u64], count: u64) ->
     requires { IsPacket p.now }
 {
     let (mut g, mut h) = ChannelMem::make(alloc, 1, 0)?;
-    timed(rt, &mut g, &mut h, p, count)
+    let time = timed(rt, &mut g, &mut h, p, count);
+    drop(g);
+    drop(h);
+    time
 }
 
 // The room that a sender of packets of so many words waits for.
@@ -92,6 +95,7 @@ fn send_all<R: Wait>(rt: &R, mut e: GuestEnd, p: &[u64], count: u64) -> u64
     let mut sent = 0;
     for _ in rt.forever() {
         if sent >= count {
+            drop(e);
             return sent;
         }
         if send(&mut e, p) {
@@ -108,6 +112,7 @@ fn take_all<R: Wait>(rt: &R, mut e: HostEnd, count: u64) -> u64 {
     let mut took = 0;
     for _ in rt.forever() {
         if took >= count {
+            drop(e);
             return took;
         }
         if take(&mut e) {

@@ -9,6 +9,7 @@ use gpadl::Assembler;
 use ring_core::{End, Room, Side, Signalled, SoloMem};
 use ring_lean_end::DriverEnd;
 use scsi_disk::Disk;
+use std::alloc::AllocGlobal;
 use std::process::Abort;
 use stor_proto::Vstor;
 use txn_table::TxnTable;
@@ -101,6 +102,8 @@ fn a_packet_goes_through_shared_words(rt: HostRuntime) {
     );
     check(&rt, take_one(&mut host) == Some(Ok(Signalled::Quiet)));
     check(&rt, host.got().len() == 1);
+    drop(guest);
+    drop(host);
 }
 
 #[test]
@@ -124,44 +127,49 @@ fn a_packet_goes_through_ends_that_keep_none(rt: HostRuntime) {
             pass_one(&mut guest, &mut host, &[0x0000_0003_0002_0006, i, 9]),
         );
     }
+    drop(guest);
+    drop(host);
 }
 
 // A packet of type 9 that lends page 1 with its first 16 bytes.
 const LENDS: [u64; 6] = [0x0001_0006_0005_0009, 1, 0x1_0000_0000, 16, 1, 9];
 
-#[test]
-fn a_word_is_lent_with_its_page(rt: HostRuntime) {
-    let alloc = rt.alloc();
-    let memory = SoloMem::make(alloc, 4096, 2).expect(&rt, "memory");
-    let mut guest = End::make(alloc, Side::Guest, 4096, memory, 2).expect(&rt, "memory");
+// A guest's end of a channel with two data pages.
+fn guest_with_pages(rt: &(impl Abort + AllocGlobal)) -> End<SoloMem> {
+    let memory = SoloMem::make(rt.alloc(), 4096, 2).expect(rt, "memory");
+    let mut guest = End::make(rt.alloc(), Side::Guest, 4096, memory, 2).expect(rt, "memory");
     let room = Room {
         packets: 4,
         words: 2048,
     };
-    guest.reserve(room, room).expect(&rt, "memory");
+    guest.reserve(room, room).expect(rt, "memory");
+    guest
+}
+
+// Whether these words went with the first packet that an end sent.
+fn lent(end: End<SoloMem>, want: &[u64]) -> bool {
+    let (_, sent, _) = end.into_parts();
+    match sent.lent(0) {
+        Some(words) => words == want,
+        None => false,
+    }
+}
+
+#[test]
+fn a_word_is_lent_with_its_page(rt: HostRuntime) {
+    let mut guest = guest_with_pages(&rt);
     check(
         &rt,
         lend_word(&mut guest, 1, 1, 77, &LENDS) == Some(Ok(Signalled::Quiet)),
     );
-    let (_, sent, _) = guest.into_parts();
-    let came = match sent.lent(0) {
-        Some(words) => words == [0u64, 77].as_slice(),
-        None => false,
-    };
-    check(&rt, came);
+    check(&rt, lent(guest, &[0, 77]));
 }
 
 #[test]
 fn a_page_that_is_lent_is_refused(rt: HostRuntime) {
-    let alloc = rt.alloc();
-    let memory = SoloMem::make(alloc, 4096, 2).expect(&rt, "memory");
-    let mut guest = End::make(alloc, Side::Guest, 4096, memory, 2).expect(&rt, "memory");
-    let room = Room {
-        packets: 4,
-        words: 2048,
-    };
-    guest.reserve(room, room).expect(&rt, "memory");
+    let mut guest = guest_with_pages(&rt);
     check(&rt, lend_word(&mut guest, 1, 1, 77, &LENDS).is_some());
     check(&rt, lend_word(&mut guest, 1, 1, 78, &LENDS).is_none());
     check(&rt, lend_word(&mut guest, 2, 0, 78, &LENDS).is_none());
+    drop(guest);
 }

@@ -44,7 +44,9 @@ pub fn both_ends(alloc: Global, ring_pages: u32) -> Result<(GuestControl, HostCo
     ensures guest { IfOk result (λ ends. ends.0 ≡ new_guest (disk_plan ring_pages)) }
     ensures host { IfOk result (λ ends. ends.1 ≡ new_host (disk_plan ring_pages)) }
 {
-    let guest = GuestControl::of_plan(alloc, plan_of_disk(alloc, ring_pages)?);
-    let host = HostControl::of_plan(alloc, plan_of_disk(alloc, ring_pages)?);
+    let of_guest = plan_of_disk(alloc, ring_pages)?;
+    let of_host = plan_of_disk(alloc, ring_pages)?;
+    let guest = GuestControl::of_plan(alloc, of_guest);
+    let host = HostControl::of_plan(alloc, of_host);
     Ok((guest, host))
 }

@@ -22,4 +22,6 @@ fn a_script_is_run(rt: HostRuntime) {
         &rt,
         sink.bytes() == b"2 done @0 seq 42\nend requests 1 done 1 rescinded 0\n".as_slice(),
     );
+    drop(outcome);
+    drop(sink);
 }

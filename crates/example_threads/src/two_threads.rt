@@ -11,21 +11,21 @@ use std::alloc::{AllocError, Global};
 use std::sync::Wait;
 use std::thread::{Threads, join};
 
-// The same end, with this room for packets that are sent, and for those that come.
-fn with_room(mut e: End<TableSeat>, room: Room) -> Result<End<TableSeat>, AllocError>
-    ensures { IfOk result (λ r. IsSameEnd e r) }
+// Makes this room at both ends, for packets that are sent, and for those that come.
+fn reserve(guest: &mut GuestEnd, host: &mut HostEnd, room: Room) -> Result<(), AllocError>
+    ensures guest { IsSameEnd guest.old guest.new }
+    ensures host { IsSameEnd host.old host.new }
 {
-    e.reserve(room, room)?;
-    Ok(e)
+    guest.reserve(room, room)?;
+    host.reserve(room, room)
 }
 
 // Both ends of a new channel with rings of one page, with this room.
 fn opened(alloc: Global, room: Room) -> Result<(GuestEnd, HostEnd), AllocError>
     ensures { IfOk result (λ ends. AreOfOneChannel ends.0 ends.1) }
 {
-    let (guest, host) = ChannelMem::make(alloc, 1, 0)?;
-    let guest = with_room(guest, room)?;
-    let host = with_room(host, room)?;
+    let (mut guest, mut host) = ChannelMem::make(alloc, 1, 0)?;
+    reserve(&mut guest, &mut host, room)?;
     Ok((guest, host))
 }
 

@@ -42,9 +42,6 @@ fn push_end(text: &mut Vec<u8>, steps: u64) -> Result<(), AllocError>
     Ok(())
 }
 
-// A bench goes: its parts are let go here, and not behind the run.
-fn leave(_bench: Bench) {}
-
 // Runs what an input says, behind its changes in the order of their steps.
 fn run_input(alloc: Global, hostile: &Hostile, due: Vec<Change>) -> Result<Vec<u8>, AllocError>
     requires due { IsScript (512 * unwrap_or hostile.now.ring 1) 0 due.items }
@@ -61,7 +58,7 @@ fn run_input(alloc: Global, hostile: &Hostile, due: Vec<Change>) -> Result<Vec<u
     let mut text = Vec::new(alloc);
     push_lines(alloc, &mut bench, hostile.asked(), &mut text)?;
     push_end(&mut text, bench.end.steps())?;
-    leave(bench);
+    drop(bench);
     Ok(text)
 }
 

@@ -1,8 +1,6 @@
 //! A whole stay on the bus against a host made by hand, and refusals.
-ghost use Rattle.std.specs.Prelude.{◌≡◌, []};
-
 use crate::check::check;
-use bus_script::parse;
+use crate::made::{empty_box, guest_of};
 use chan_state::{Event, State, StateFault};
 use contact::{Kind, Part, Version, offer};
 use control_model::ControlFault;
@@ -166,51 +164,31 @@ enum Step {
     Taken(usize),
 }
 
-// A guest of the script.
-fn guest_of(rt: &(impl Abort + AllocGlobal), script: &[u8]) -> GuestControl {
-    let Ok(script) = parse(rt.alloc(), script) else {
-        panic!(rt; "no script");
-    };
-    let Ok(guest) = GuestControl::make(rt.alloc(), &script) else {
-        panic!(rt; "no guest");
-    };
-    guest
-}
-
-// An empty box.
-fn empty_box(rt: &(impl Abort + AllocGlobal)) -> MailBox
-    ensures { result ≡ record { size = 64; queue = [] } }
-{
-    let Ok(post) = MailBox::make(rt.alloc(), 64) else {
-        panic!(rt; "no box");
-    };
-    post
-}
-
 // These messages are in the box, and no other.
-fn check_sent(rt: &impl Abort, post: &mut MailBox, sends: &[Told]) {
+fn check_sent(rt: &impl Abort, mut post: MailBox, sends: &[Told]) {
     for want in sends {
         check(rt, post.take().as_ref().map(told) == Some(*want));
     }
     check(rt, post.take().is_none());
+    drop(post);
 }
 
 fn begin(rt: &(impl Abort + AllocGlobal), guest: &mut GuestControl, part: Part, sends: &[Told]) {
-    let mut post = empty_box(rt);
     let Some(next) = guest.next_part() else {
         panic!(rt; "no part is left");
     };
     check(rt, next == part);
     check(rt, guest.part().is_none() || guest.done());
+    let mut post = empty_box(rt);
     check(rt, guest.begin(next, &mut post).is_ok());
     check(rt, guest.part() == Some(part));
-    check_sent(rt, &mut post, sends);
+    check_sent(rt, post, sends);
 }
 
 fn feed(rt: &(impl Abort + AllocGlobal), guest: &mut GuestControl, m: &Msg, sends: &[Told]) {
     let mut post = empty_box(rt);
     check(rt, guest.feed(m, &mut post) == Ok(()));
-    check_sent(rt, &mut post, sends);
+    check_sent(rt, post, sends);
 }
 
 fn refuse(rt: &(impl Abort + AllocGlobal), guest: &mut GuestControl, m: &Msg, fault: ControlFault) {
@@ -218,7 +196,7 @@ fn refuse(rt: &(impl Abort + AllocGlobal), guest: &mut GuestControl, m: &Msg, fa
     let fed = guest.fed().len();
     check(rt, guest.feed(m, &mut post) == Err(fault));
     check(rt, guest.fed().len() == fed);
-    check_sent(rt, &mut post, &[]);
+    check_sent(rt, post, &[]);
 }
 
 fn take(rt: &(impl Abort + AllocGlobal), guest: &mut GuestControl, step: Step, sends: &[Told]) {
@@ -243,21 +221,27 @@ fn take(rt: &(impl Abort + AllocGlobal), guest: &mut GuestControl, step: Step, s
     }
 }
 
-// A guest of a script takes these steps in turn; each sends the messages beside it.
+// A guest takes these steps in turn; each sends the messages beside it.
+fn take_each(rt: &(impl Abort + AllocGlobal), guest: &mut GuestControl, steps: &[(Step, &[Told])]) {
+    for (step, sends) in steps {
+        take(rt, guest, *step, sends);
+    }
+}
+
+// So does a guest of a script, from its start on.
 fn take_all(rt: &(impl Abort + AllocGlobal), script: &[u8], steps: &[(Step, &[Told])]) {
     let mut guest = guest_of(rt, script);
     check(
         rt,
         guest.part().is_none() && guest.version().is_none() && !guest.done(),
     );
-    for (step, sends) in steps {
-        take(rt, &mut guest, *step, sends);
-    }
+    take_each(rt, &mut guest, steps);
+    drop(guest);
 }
 
 const GPADL: u32 = 0xe1e10;
 
-const STAY: [(Step, &[Told]); 37] = [
+const STAY: &[(Step, &[Told])] = &[
     (Step::Begin(Part::Contact), &[(14, 0x5_0001, 0, 0)]),
     (
         Step::Feed(Said::Response { supported: 0 }),
@@ -368,7 +352,7 @@ const STAY: [(Step, &[Told]); 37] = [
     (Step::Ended(20, 17), &[]),
 ];
 
-const REFUSALS: [(Step, &[Told]); 22] = [
+const REFUSALS: &[(Step, &[Told])] = &[
     (Step::Begin(Part::Contact), &[(14, 0x5_0001, 0, 0)]),
     (
         Step::Refuse(Said::Close { relid: 9 }, ControlFault::Unasked { kind: 7 }),
@@ -456,7 +440,7 @@ const REFUSALS: [(Step, &[Told]); 22] = [
 ];
 
 // The guest waits for the first channel to be rescinded, gives it back, and closes the second one.
-const RESCIND_FIRST: [(Step, &[Told]); 18] = [
+const RESCIND_FIRST: &[(Step, &[Told])] = &[
     (Step::Begin(Part::Contact), &[(14, 0x5_0002, 0, 0)]),
     (Step::Feed(Said::Response { supported: 1 }), &[(3, 0, 0, 0)]),
     (
@@ -528,7 +512,7 @@ const RESCIND_FIRST: [(Step, &[Told]); 18] = [
 ];
 
 // The guest closes the first channel, waits for the second one to be rescinded, and gives it back.
-const RESCIND_SECOND: [(Step, &[Told]); 17] = [
+const RESCIND_SECOND: &[(Step, &[Told])] = &[
     (Step::Begin(Part::Contact), &[(14, 0x5_0002, 0, 0)]),
     (Step::Feed(Said::Response { supported: 1 }), &[(3, 0, 0, 0)]),
     (
@@ -591,7 +575,7 @@ const RESCIND_SECOND: [(Step, &[Told]); 17] = [
 
 // Both channels are moved once all three are open, and their answers come in the other order. A
 // sub-channel isn't moved. What isn't awaited is refused as its channel's life says.
-const MOVE_BOTH: [(Step, &[Told]); 33] = [
+const MOVE_BOTH: &[(Step, &[Told])] = &[
     (Step::Begin(Part::Contact), &[(14, 0x5_0003, 0, 0)]),
     (Step::Feed(Said::Response { supported: 1 }), &[(3, 0, 0, 0)]),
     (
@@ -723,56 +707,56 @@ const MOVE_BOTH: [(Step, &[Told]); 33] = [
     (Step::Ended(18, 18), &[]),
 ];
 
+// The version is accepted, and both channels are opened but for the last answer.
+const OPEN_BOTH: &[(Step, &[Told])] = &[
+    (Step::Feed(Said::Response { supported: 1 }), &[(3, 0, 0, 0)]),
+    (
+        Step::Feed(Said::Offer {
+            kind: Kind::Disk,
+            relid: 1,
+            sub: 0,
+        }),
+        &[],
+    ),
+    (
+        Step::Feed(Said::Offer {
+            kind: Kind::Disk,
+            relid: 2,
+            sub: 0,
+        }),
+        &[],
+    ),
+    (Step::Feed(Said::Delivered), &[]),
+    (Step::Begin(Part::PhaseStart(0)), &[(8, 1, GPADL, 4)]),
+    (
+        Step::Feed(Said::Created {
+            relid: 1,
+            gpadl: GPADL,
+        }),
+        &[(5, 1, GPADL, 2)],
+    ),
+    (
+        Step::Feed(Said::Opened {
+            relid: 1,
+            status: 0,
+        }),
+        &[(8, 2, GPADL + 1, 4)],
+    ),
+    (
+        Step::Feed(Said::Created {
+            relid: 2,
+            gpadl: GPADL + 1,
+        }),
+        &[(5, 2, GPADL + 1, 2)],
+    ),
+];
+
 // A guest of two disks, the first of which is moved to processor 0 and the second one to 3, up to the
 // last answer before it moves them.
 fn opens_both(rt: &(impl Abort + AllocGlobal), script: &[u8], version: u32) -> GuestControl {
     let mut guest = guest_of(rt, script);
-    let steps: [(Step, &[Told]); 9] = [
-        (Step::Begin(Part::Contact), &[(14, version, 0, 0)]),
-        (Step::Feed(Said::Response { supported: 1 }), &[(3, 0, 0, 0)]),
-        (
-            Step::Feed(Said::Offer {
-                kind: Kind::Disk,
-                relid: 1,
-                sub: 0,
-            }),
-            &[],
-        ),
-        (
-            Step::Feed(Said::Offer {
-                kind: Kind::Disk,
-                relid: 2,
-                sub: 0,
-            }),
-            &[],
-        ),
-        (Step::Feed(Said::Delivered), &[]),
-        (Step::Begin(Part::PhaseStart(0)), &[(8, 1, GPADL, 4)]),
-        (
-            Step::Feed(Said::Created {
-                relid: 1,
-                gpadl: GPADL,
-            }),
-            &[(5, 1, GPADL, 2)],
-        ),
-        (
-            Step::Feed(Said::Opened {
-                relid: 1,
-                status: 0,
-            }),
-            &[(8, 2, GPADL + 1, 4)],
-        ),
-        (
-            Step::Feed(Said::Created {
-                relid: 2,
-                gpadl: GPADL + 1,
-            }),
-            &[(5, 2, GPADL + 1, 2)],
-        ),
-    ];
-    for (step, sends) in &steps {
-        take(rt, &mut guest, *step, sends);
-    }
+    begin(rt, &mut guest, Part::Contact, &[(14, version, 0, 0)]);
+    take_each(rt, &mut guest, OPEN_BOTH);
     guest
 }
 
@@ -785,7 +769,7 @@ const LAST_OPEN: Step = Step::Feed(Said::Opened {
 const BOTH_MOVED: &[Told] = &[(22, 1, 0, 0), (22, 2, 3, 0)];
 
 // A channel is rescinded before its answer comes: no answer is awaited then, and none is taken.
-const RESCIND_MOVED: [(Step, &[Told]); 10] = [
+const RESCIND_MOVED: &[(Step, &[Told])] = &[
     (LAST_OPEN, BOTH_MOVED),
     (Step::Feed(Said::Rescind { relid: 1 }), &[(13, 1, 0, 0)]),
     (Step::IsAt(1, Some(State::Released)), &[]),
@@ -808,7 +792,7 @@ const RESCIND_MOVED: [(Step, &[Told]); 10] = [
 ];
 
 // A channel that was rescinded before all were open isn't moved.
-const RESCIND_BEFORE: [(Step, &[Told]); 5] = [
+const RESCIND_BEFORE: &[(Step, &[Told])] = &[
     (Step::Feed(Said::Rescind { relid: 1 }), &[(13, 1, 0, 0)]),
     (LAST_OPEN, &[(22, 2, 3, 0)]),
     (Step::IsDone(false), &[]),
@@ -817,7 +801,7 @@ const RESCIND_BEFORE: [(Step, &[Told]); 5] = [
 ];
 
 // The first channel is moved and rescinded at the end of its phase, and the second one closed.
-const MOVE_AND_RESCIND: [(Step, &[Told]); 8] = [
+const MOVE_AND_RESCIND: &[(Step, &[Told])] = &[
     (LAST_OPEN, BOTH_MOVED),
     (Step::Feed(Said::Modified { relid: 1 }), &[]),
     (Step::IsDone(false), &[]),
@@ -838,14 +822,13 @@ fn goes_on(
     steps: &[(Step, &[Told])],
 ) {
     let mut guest = opens_both(rt, script, version);
-    for (step, sends) in steps {
-        take(rt, &mut guest, *step, sends);
-    }
+    take_each(rt, &mut guest, steps);
+    drop(guest);
 }
 
 // The page lists of a network's buffers are sent behind its channel's answer, one at a time, and torn down
 // before it is closed. A message of one that isn't the awaited one makes the channel go on nowhere.
-const FILL: [(Step, &[Told]); 26] = [
+const FILL: &[(Step, &[Told])] = &[
     (Step::Begin(Part::Contact), &[(14, 0x5_0002, 0, 0)]),
     (Step::Feed(Said::Response { supported: 1 }), &[(3, 0, 0, 0)]),
     (
@@ -945,7 +928,7 @@ const FILL: [(Step, &[Told]); 26] = [
 
 // The rescind of a network ends its rings' page list and both of its buffers: the guest tears none of the three
 // down, and awaits none to be.
-const RESCIND_NET: [(Step, &[Told]); 19] = [
+const RESCIND_NET: &[(Step, &[Told])] = &[
     (Step::Begin(Part::Contact), &[(14, 0x5_0002, 0, 0)]),
     (Step::Feed(Said::Response { supported: 1 }), &[(3, 0, 0, 0)]),
     (
@@ -1029,58 +1012,58 @@ const RESCIND_NET: [(Step, &[Told]); 19] = [
 
 #[test]
 fn buffers_have_lists(rt: HostRuntime) {
-    take_all(&rt, NET, &FILL);
+    take_all(&rt, NET, FILL);
 }
 
 #[test]
 fn a_rescind_ends_a_networks_lists(rt: HostRuntime) {
-    take_all(&rt, NET_RESCINDED, &RESCIND_NET);
+    take_all(&rt, NET_RESCINDED, RESCIND_NET);
 }
 
 #[test]
 fn whole_stay(rt: HostRuntime) {
-    take_all(&rt, SCRIPT, &STAY);
+    take_all(&rt, SCRIPT, STAY);
 }
 
 #[test]
 fn refusals(rt: HostRuntime) {
-    take_all(&rt, SCRIPT, &REFUSALS);
+    take_all(&rt, SCRIPT, REFUSALS);
 }
 
 #[test]
 fn rescinded_and_closed(rt: HostRuntime) {
-    take_all(&rt, FIRST_RESCINDED, &RESCIND_FIRST);
-    take_all(&rt, SECOND_RESCINDED, &RESCIND_SECOND);
+    take_all(&rt, FIRST_RESCINDED, RESCIND_FIRST);
+    take_all(&rt, SECOND_RESCINDED, RESCIND_SECOND);
 }
 
 #[test]
 fn channels_are_moved(rt: HostRuntime) {
-    take_all(&rt, MOVED, &MOVE_BOTH);
-    goes_on(&rt, ANSWERED, 0x5_0003, &MOVE_AND_RESCIND);
+    take_all(&rt, MOVED, MOVE_BOTH);
+    goes_on(&rt, ANSWERED, 0x5_0003, MOVE_AND_RESCIND);
 }
 
 #[test]
 fn moved_channels_are_rescinded(rt: HostRuntime) {
-    goes_on(&rt, ANSWERED, 0x5_0003, &RESCIND_MOVED);
-    goes_on(&rt, ANSWERED, 0x5_0003, &RESCIND_BEFORE);
+    goes_on(&rt, ANSWERED, 0x5_0003, RESCIND_MOVED);
+    goes_on(&rt, ANSWERED, 0x5_0003, RESCIND_BEFORE);
 }
 
 // Below 5.3 no answer is awaited, and below 4.1 nothing is sent.
+const MOVED_AT_ONCE: &[(Step, &[Told])] = &[
+    (LAST_OPEN, BOTH_MOVED),
+    (Step::IsAt(1, Some(State::Opened)), &[]),
+    (Step::IsDone(true), &[]),
+];
+
+const NOT_MOVED: &[(Step, &[Told])] = &[
+    (LAST_OPEN, &[]),
+    (Step::IsAt(1, Some(State::Opened)), &[]),
+    (Step::IsDone(true), &[]),
+];
+
 #[test]
 fn moves_by_version(rt: HostRuntime) {
-    let stays: (Step, &[Told]) = (Step::IsAt(1, Some(State::Opened)), &[]);
-    let done: (Step, &[Told]) = (Step::IsDone(true), &[]);
-    goes_on(
-        &rt,
-        UNANSWERED,
-        0x5_0002,
-        &[(LAST_OPEN, BOTH_MOVED), stays, done],
-    );
-    goes_on(
-        &rt,
-        FIRST_TOLD,
-        0x4_0001,
-        &[(LAST_OPEN, BOTH_MOVED), stays, done],
-    );
-    goes_on(&rt, UNSUPPORTED, 0x4_0000, &[(LAST_OPEN, &[]), stays, done]);
+    goes_on(&rt, UNANSWERED, 0x5_0002, MOVED_AT_ONCE);
+    goes_on(&rt, FIRST_TOLD, 0x4_0001, MOVED_AT_ONCE);
+    goes_on(&rt, UNSUPPORTED, 0x4_0000, NOT_MOVED);
 }

@@ -1,8 +1,6 @@
 //! A host's control by itself, against a guest made by hand.
-ghost use Rattle.std.specs.Prelude.{◌≡◌, []};
-
 use crate::check::check;
-use bus_script::parse;
+use crate::made::{empty_box, host_of};
 use chan_state::{Event, State, StateFault};
 use contact::{Part, Version};
 use control_model::ControlFault;
@@ -120,7 +118,7 @@ enum Step {
     Begin(Part),
     // It takes a message.
     Feed(Said),
-    // It takes the messages of a list of so many pages, under this handle of this channel.
+    // It takes the messages of a list of so many pages, under this handle of this channel, and sends nothing before the last one.
     List {
         relid: u32,
         gpadl: u32,
@@ -136,40 +134,31 @@ enum Step {
     Ended(usize, usize),
 }
 
-// An empty box.
-fn empty_box(rt: &(impl Abort + AllocGlobal)) -> MailBox
-    ensures { result ≡ record { size = 64; queue = [] } }
-{
-    let Ok(post) = MailBox::make(rt.alloc(), 64) else {
-        panic!(rt; "no box");
-    };
-    post
-}
-
 // These messages are in the box, and no other.
-fn check_sent(rt: &impl Abort, post: &mut MailBox, sends: &[Told]) {
+fn check_sent(rt: &impl Abort, mut post: MailBox, sends: &[Told]) {
     for want in sends {
         check(rt, post.take().as_ref().map(told) == Some(*want));
     }
     check(rt, post.take().is_none());
+    drop(post);
 }
 
 fn begin(rt: &(impl Abort + AllocGlobal), host: &mut HostControl, part: Part, sends: &[Told]) {
-    let mut post = empty_box(rt);
     let Some(next) = host.next_part() else {
         panic!(rt; "no part is left");
     };
     check(rt, next == part);
     check(rt, host.part().is_none() || host.done());
+    let mut post = empty_box(rt);
     check(rt, host.begin(next, &mut post).is_ok());
     check(rt, host.part() == Some(part));
-    check_sent(rt, &mut post, sends);
+    check_sent(rt, post, sends);
 }
 
 fn feed(rt: &(impl Abort + AllocGlobal), host: &mut HostControl, m: &Msg, sends: &[Told]) {
     let mut post = empty_box(rt);
     check(rt, host.feed(m, &mut post) == Ok(()));
-    check_sent(rt, &mut post, sends);
+    check_sent(rt, post, sends);
 }
 
 fn feed_list(
@@ -185,12 +174,14 @@ fn feed_list(
     let Ok(messages) = to_messages(rt.alloc(), relid, gpadl, &list[..pages]) else {
         panic!(rt; "no messages");
     };
-    let mut post = empty_box(rt);
-    for m in messages.iter() {
-        post = empty_box(rt);
-        check(rt, host.feed(m, &mut post) == Ok(()));
+    let Some((last, front)) = messages.as_slice().split_last() else {
+        panic!(rt; "an empty list of messages");
+    };
+    for m in front {
+        feed(rt, host, m, &[]);
     }
-    check_sent(rt, &mut post, sends);
+    feed(rt, host, last, sends);
+    drop(messages);
 }
 
 fn refuse(rt: &(impl Abort + AllocGlobal), host: &mut HostControl, m: &Msg, fault: ControlFault) {
@@ -198,7 +189,7 @@ fn refuse(rt: &(impl Abort + AllocGlobal), host: &mut HostControl, m: &Msg, faul
     let fed = host.fed().len();
     check(rt, host.feed(m, &mut post) == Err(fault));
     check(rt, host.fed().len() == fed);
-    check_sent(rt, &mut post, &[]);
+    check_sent(rt, post, &[]);
 }
 
 fn take(rt: &(impl Abort + AllocGlobal), host: &mut HostControl, step: Step, sends: &[Told]) {
@@ -220,7 +211,7 @@ fn take(rt: &(impl Abort + AllocGlobal), host: &mut HostControl, step: Step, sen
     }
 }
 
-const STAY: [(Step, &[Told]); 28] = [
+const STAY: &[(Step, &[Told])] = &[
     (Step::Begin(Part::Contact), &[]),
     (
         Step::Refuse(Said::Unloaded, ControlFault::Unasked { kind: 17 }),
@@ -312,7 +303,7 @@ const STAY: [(Step, &[Told]); 28] = [
 
 // Both channels are moved once all three are open. A message for another channel is an event of it,
 // which is answered, and the host waits on.
-const MOVE_BOTH: [(Step, &[Told]); 35] = [
+const MOVE_BOTH: &[(Step, &[Told])] = &[
     (Step::Begin(Part::Contact), &[]),
     (
         Step::Refuse(
@@ -431,30 +422,32 @@ const MOVE_BOTH: [(Step, &[Told]); 35] = [
     (Step::Ended(20, 21), &[]),
 ];
 
-// A host of a script takes these steps in turn; each sends the messages beside it.
+// A host takes these steps in turn; each sends the messages beside it.
+fn take_each(rt: &(impl Abort + AllocGlobal), host: &mut HostControl, steps: &[(Step, &[Told])]) {
+    for (step, sends) in steps {
+        take(rt, host, *step, sends);
+    }
+}
+
+// So does a host of a script, from its start on.
 fn take_all(
     rt: &(impl Abort + AllocGlobal),
     script: &[u8],
     steps: &[(Step, &[Told])],
 ) -> HostControl {
-    let Ok(script) = parse(rt.alloc(), script) else {
-        panic!(rt; "no script");
-    };
-    let Ok(mut host) = HostControl::make(rt.alloc(), &script) else {
-        panic!(rt; "no host");
-    };
+    let mut host = host_of(rt, script);
     check(
         rt,
         host.part().is_none() && host.version().is_none() && !host.done(),
     );
-    for (step, sends) in steps {
-        take(rt, &mut host, *step, sends);
-    }
+    take_each(rt, &mut host, steps);
     host
 }
 
-// A host of one device opens its channel.
-const OPEN_ONE: [(Step, &[Told]); 2] = [
+// A host of one device offers it, and opens its channel.
+const OPEN_ONE: &[(Step, &[Told])] = &[
+    (Step::Feed(Said::Request), &[(1, 1), (4, 0)]),
+    (Step::Begin(Part::PhaseStart(0)), &[]),
     (
         Step::List {
             relid: 1,
@@ -473,25 +466,20 @@ const OPEN_ONE: [(Step, &[Told]); 2] = [
 ];
 
 fn opens_one(rt: &(impl Abort + AllocGlobal), script: &[u8], version: u32) -> HostControl {
-    let mut host = take_all(
+    let mut host = take_all(rt, script, &[(Step::Begin(Part::Contact), &[])]);
+    feed(
         rt,
-        script,
-        &[
-            (Step::Begin(Part::Contact), &[]),
-            (Step::Feed(Said::Contact { version }), &[(15, 1)]),
-            (Step::Feed(Said::Request), &[(1, 1), (4, 0)]),
-            (Step::Begin(Part::PhaseStart(0)), &[]),
-        ],
+        &mut host,
+        &message(Said::Contact { version }),
+        &[(15, 1)],
     );
-    for (step, sends) in &OPEN_ONE {
-        take(rt, &mut host, *step, sends);
-    }
+    take_each(rt, &mut host, OPEN_ONE);
     host
 }
 
 // The page lists of a network's buffers come behind its channel's answer. One that is let go out of turn, and
 // sent again, makes the channel go on nowhere.
-const FILL: [(Step, &[Told]); 27] = [
+const FILL: &[(Step, &[Told])] = &[
     (Step::Begin(Part::Contact), &[]),
     (Step::Feed(Said::Contact { version: 0x5_0002 }), &[(15, 1)]),
     (Step::Feed(Said::Request), &[(1, 1), (4, 0)]),
@@ -599,7 +587,7 @@ const FILL: [(Step, &[Told]); 27] = [
 
 // The rescind of a network ends the page lists of its rings and of both its buffers: a guest that tears them down
 // is told nothing, and each of the three handles is free for a new list.
-const RESCIND_NET: [(Step, &[Told]); 22] = [
+const RESCIND_NET: &[(Step, &[Told])] = &[
     (Step::Begin(Part::Contact), &[]),
     (Step::Feed(Said::Contact { version: 0x5_0002 }), &[(15, 1)]),
     (Step::Feed(Said::Request), &[(1, 1), (4, 0)]),
@@ -692,24 +680,26 @@ const RESCIND_NET: [(Step, &[Told]); 22] = [
 
 #[test]
 fn buffers_have_lists(rt: HostRuntime) {
-    take_all(&rt, NET, &FILL);
+    drop(take_all(&rt, NET, FILL));
 }
 
 #[test]
 fn a_rescind_ends_a_networks_lists(rt: HostRuntime) {
-    take_all(&rt, NET_RESCINDED, &RESCIND_NET);
+    drop(take_all(&rt, NET_RESCINDED, RESCIND_NET));
 }
 
 #[test]
 fn host_stay(rt: HostRuntime) {
-    let host = take_all(&rt, SCRIPT, &STAY);
+    let host = take_all(&rt, SCRIPT, STAY);
     check(&rt, host.version() == Some(Version(0x4_0000)));
+    drop(host);
 }
 
 #[test]
 fn channels_are_moved(rt: HostRuntime) {
-    let host = take_all(&rt, MOVED, &MOVE_BOTH);
+    let host = take_all(&rt, MOVED, MOVE_BOTH);
     check(&rt, host.version() == Some(Version(0x5_0003)));
+    drop(host);
 }
 
 // Below 5.3 the host waits for the message and doesn't answer it, and below 4.1 it waits for none.
@@ -724,6 +714,8 @@ fn moves_by_version(rt: HostRuntime) {
         &[],
     );
     check(&rt, unanswered.done());
+    drop(unanswered);
     let unsupported = opens_one(&rt, UNSUPPORTED, 0x4_0000);
     check(&rt, unsupported.done());
+    drop(unsupported);
 }

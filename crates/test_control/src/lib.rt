@@ -8,6 +8,10 @@ mod guest_end_tests;
 #[cfg(test)]
 mod host_end_tests;
 #[cfg(test)]
+mod made;
+#[cfg(test)]
 mod net_tests;
+#[cfg(test)]
+mod parts;
 #[cfg(test)]
 mod path_tests;

@@ -1,11 +1,9 @@
 //! The page lists of networks' buffers: two networks over two phases, of which the host rescinds the second
 //! one at the end of the first phase.
-ghost use Rattle.control_path.specs.Path.{Rests};
-
 use crate::check::check;
-use bus_script::parse;
+use crate::made::path_of;
+use crate::parts::{farewell, go};
 use chan_state::State;
-use contact::Part;
 use control_path::{ControlPath, PathOver};
 use std::process::Abort;
 use std::sync::Wait;
@@ -65,7 +63,7 @@ fn told(m: &Msg) -> Told {
 }
 
 // All that the guest says: of each list of 64 pages a header of 26 frames and bodies of 28 and 10.
-const GUEST_SAYS: [Told; 36] = [
+const GUEST_SAYS: &[Told] = &[
     (14, 0, 0, 0, 0),
     (3, 0, 0, 0, 0),
     (8, 1, GPADL, 4, 0),
@@ -105,7 +103,7 @@ const GUEST_SAYS: [Told; 36] = [
 ];
 
 // And the host.
-const HOST_SAYS: [Told; 24] = [
+const HOST_SAYS: &[Told] = &[
     (15, 0, 0, 0, 0),
     (1, 1, 0, 0, 0),
     (1, 2, 0, 0, 0),
@@ -177,33 +175,6 @@ fn check_accepted(rt: &impl Abort, posted: &[Msg]) {
     }
 }
 
-// Runs the next part.
-fn go<R: Abort + Threads + Wait + Sync>(rt: &R, path: ControlPath) -> ControlPath
-    requires { Rests path }
-    ensures { Rests result }
-{
-    let Some(part) = path.next_part() else {
-        panic!(rt; "no part is left");
-    };
-    let Ok(path) = path.run(rt, part) else {
-        panic!(rt; "a side wanted memory");
-    };
-    path
-}
-
-// Runs the farewell, which is the last part.
-fn leave<R: Abort + Threads + Wait + Sync>(rt: &R, path: ControlPath) -> PathOver
-    requires { Rests path }
-{
-    let Some(Part::Unload) = path.next_part() else {
-        panic!(rt; "the farewell isn't next");
-    };
-    let Ok(path) = path.run(rt, Part::Unload) else {
-        panic!(rt; "a side wanted memory");
-    };
-    path.end(rt)
-}
-
 // The last two page lists that the guest told for each of the networks' channels, and for none of another one.
 fn check_lists(rt: &impl Abort, path: &ControlPath, n: (u32, u32), m: (u32, u32)) {
     check(rt, path.last_lists(1) == n);
@@ -213,13 +184,7 @@ fn check_lists(rt: &impl Abort, path: &ControlPath, n: (u32, u32), m: (u32, u32)
 
 // Runs all parts of the script, which has two phases.
 fn stay<R: Abort + AllocGlobal + Threads + Wait + Sync>(rt: &R) -> PathOver {
-    let Ok(script) = parse(rt.alloc(), SCRIPT) else {
-        panic!(rt; "no script");
-    };
-    let Ok(path) = ControlPath::make(rt.alloc(), &script) else {
-        panic!(rt; "no path");
-    };
-    let contacted = go(rt, path);
+    let contacted = go(rt, path_of(rt, SCRIPT));
     check_lists(rt, &contacted, (0, 0), (0, 0));
     let opened = go(rt, contacted);
     check_lists(rt, &opened, (GPADL + 1, GPADL + 2), (GPADL + 4, GPADL + 5));
@@ -227,7 +192,7 @@ fn stay<R: Abort + AllocGlobal + Threads + Wait + Sync>(rt: &R) -> PathOver {
     let again = go(rt, closed);
     check_lists(rt, &again, (GPADL + 7, GPADL + 8), (GPADL + 4, GPADL + 5));
     let ended = go(rt, again);
-    leave(rt, ended)
+    farewell(rt, ended)
 }
 
 // These were said, and nothing else.
@@ -243,10 +208,10 @@ fn check_said(rt: &impl Abort, posted: &[Msg], says: &[Told]) {
 fn buffers_have_lists(rt: HostRuntime) {
     let over = stay(&rt);
     let (guest, host) = (&over.guest, &over.host);
-    check_said(&rt, guest.posted(), &GUEST_SAYS);
-    check_said(&rt, host.fed(), &GUEST_SAYS);
-    check_said(&rt, host.posted(), &HOST_SAYS);
-    check_said(&rt, guest.fed(), &HOST_SAYS);
+    check_said(&rt, guest.posted(), GUEST_SAYS);
+    check_said(&rt, host.fed(), GUEST_SAYS);
+    check_said(&rt, host.posted(), HOST_SAYS);
+    check_said(&rt, guest.fed(), HOST_SAYS);
     check_whole_lists(&rt, guest.posted());
     check_accepted(&rt, host.posted());
     check(
@@ -257,4 +222,5 @@ fn buffers_have_lists(rt: HostRuntime) {
         &rt,
         guest.state(2) == Some(State::Released) && host.state(2) == Some(State::Released),
     );
+    drop(over);
 }

@@ -1,11 +1,10 @@
 //! Both controls over the queues between them, the host's on a thread of its own.
-ghost use Rattle.control_path.specs.Path.{Rests};
-
 use crate::check::check;
-use bus_script::parse;
+use crate::made::path_of;
+use crate::parts::{farewell, go};
 use chan_state::State;
-use contact::{Part, Version};
-use control_path::{ControlPath, PathOver};
+use contact::Version;
+use control_path::PathOver;
 use std::process::Abort;
 use std::sync::Wait;
 use std::thread::Threads;
@@ -16,47 +15,14 @@ use vmbus_msg::Msg;
 const SCRIPT: &[u8] =
     b"contact 5.2 4.1\noffer disk a 64 2\noffer hb b\nring a 16\nready a\nbeat b 1\nclose b\nphase\nready a\nrescind a after 1\n";
 
-// Runs the next part.
-fn go<R: Abort + Threads + Wait + Sync>(rt: &R, path: ControlPath) -> ControlPath
-    requires { Rests path }
-    ensures { Rests result }
-{
-    let Some(part) = path.next_part() else {
-        panic!(rt; "no part is left");
-    };
-    let Ok(path) = path.run(rt, part) else {
-        panic!(rt; "a side wanted memory");
-    };
-    path
-}
-
-// Runs the farewell, which is the last part.
-fn leave<R: Abort + Threads + Wait + Sync>(rt: &R, path: ControlPath) -> PathOver
-    requires { Rests path }
-{
-    let Some(Part::Unload) = path.next_part() else {
-        panic!(rt; "the farewell isn't next");
-    };
-    let Ok(path) = path.run(rt, Part::Unload) else {
-        panic!(rt; "a side wanted memory");
-    };
-    path.end(rt)
-}
-
 // Runs all parts of a script with two phases.
 fn stay<R: Abort + AllocGlobal + Threads + Wait + Sync>(rt: &R, script: &[u8]) -> PathOver {
-    let Ok(script) = parse(rt.alloc(), script) else {
-        panic!(rt; "no script");
-    };
-    let Ok(path) = ControlPath::make(rt.alloc(), &script) else {
-        panic!(rt; "no path");
-    };
-    let contacted = go(rt, path);
+    let contacted = go(rt, path_of(rt, script));
     let opened = go(rt, contacted);
     let closed = go(rt, opened);
     let again = go(rt, closed);
     let ended = go(rt, again);
-    leave(rt, ended)
+    farewell(rt, ended)
 }
 
 #[test]
@@ -85,6 +51,7 @@ fn a_path_from_contact_to_farewell(rt: HostRuntime) {
         &rt,
         guest.state(6) == Some(State::Released) && guest.state(7).is_none(),
     );
+    drop(over);
 }
 
 // Two phases: a disk with a sub-channel and a heartbeat are moved, and the heartbeat is closed; then the
@@ -135,7 +102,7 @@ fn told(m: &Msg) -> Told {
 const GPADL: u32 = 0xe1e10;
 
 // What the guest says from its accepted version on.
-const GUEST_SAYS: [Told; 25] = [
+const GUEST_SAYS: &[Told] = &[
     (14, 0, 0),
     (3, 0, 0),
     (8, 1, 0),
@@ -164,7 +131,7 @@ const GUEST_SAYS: [Told; 25] = [
 ];
 
 // And the host.
-const HOST_SAYS: [Told; 26] = [
+const HOST_SAYS: &[Told] = &[
     (15, 0, 0),
     (1, 1, 0),
     (1, 2, 0),
@@ -213,10 +180,10 @@ fn check_both(rt: &impl Abort, over: &PathOver, refused: usize, moves: bool, ans
     let (guest, host) = (&over.guest, &over.host);
     let no_moves = if moves { 0 } else { 22 };
     let no_answers = if answers { 0 } else { 24 };
-    check_said(rt, refused, guest.posted(), &GUEST_SAYS, no_moves);
-    check_said(rt, refused, host.fed(), &GUEST_SAYS, no_moves);
-    check_said(rt, refused, host.posted(), &HOST_SAYS, no_answers);
-    check_said(rt, refused, guest.fed(), &HOST_SAYS, no_answers);
+    check_said(rt, refused, guest.posted(), GUEST_SAYS, no_moves);
+    check_said(rt, refused, host.fed(), GUEST_SAYS, no_moves);
+    check_said(rt, refused, host.posted(), HOST_SAYS, no_answers);
+    check_said(rt, refused, guest.fed(), HOST_SAYS, no_answers);
     check(
         rt,
         guest.state(1) == Some(State::Released) && host.state(1) == Some(State::Released),
@@ -227,10 +194,23 @@ fn check_both(rt: &impl Abort, over: &PathOver, refused: usize, moves: bool, ans
     );
 }
 
+// All parts of a script are run, and that is what both sides said.
+fn check_stay<R: Abort + AllocGlobal + Threads + Wait + Sync>(
+    rt: &R,
+    script: &[u8],
+    refused: usize,
+    moves: bool,
+    answers: bool,
+) {
+    let over = stay(rt, script);
+    check_both(rt, &over, refused, moves, answers);
+    drop(over);
+}
+
 #[test]
 fn channels_are_moved(rt: HostRuntime) {
-    check_both(&rt, &stay(&rt, ANSWERED), 0, true, true);
-    check_both(&rt, &stay(&rt, UNANSWERED), 1, true, false);
-    check_both(&rt, &stay(&rt, FIRST_TOLD), 0, true, false);
-    check_both(&rt, &stay(&rt, UNSUPPORTED), 0, false, false);
+    check_stay(&rt, ANSWERED, 0, true, true);
+    check_stay(&rt, UNANSWERED, 1, true, false);
+    check_stay(&rt, FIRST_TOLD, 0, true, false);
+    check_stay(&rt, UNSUPPORTED, 0, false, false);
 }

@@ -1,5 +1,6 @@
 //! The control path of a socket: a guest that asks for a service, and a host that offers its channel.
-ghost use Rattle.std.specs.Prelude.{◌≡◌, []};
+ghost use Rattle.std.specs.Prelude.{◌≡◌, [], Some};
+ghost use Rattle.control_model.specs.Plan.{part_after};
 ghost use Rattle.control_path.specs.Path.{Rests};
 
 use crate::check::check;
@@ -20,15 +21,15 @@ const PORT: u32 = 0x0102_0304;
 
 // The ids of 00000001-facb-11e6-bd58-64006a7986d3 and 01020304-facb-11e6-bd58-64006a7986d3, the first
 // three groups little-endian, as srv_id_template of Linux's net/vmw_vsock/hyperv_transport.c has them.
-const ENDPOINT: [u8; 16] = [
+const ENDPOINT: &[u8; 16] = &[
     1, 0, 0, 0, 0xcb, 0xfa, 0xe6, 0x11, 0xbd, 0x58, 0x64, 0, 0x6a, 0x79, 0x86, 0xd3,
 ];
 
-const SERVICE: [u8; 16] = [
+const SERVICE: &[u8; 16] = &[
     4, 3, 2, 1, 0xcb, 0xfa, 0xe6, 0x11, 0xbd, 0x58, 0x64, 0, 0x6a, 0x79, 0x86, 0xd3,
 ];
 
-const OTHER_TAIL: [u8; 16] = [
+const OTHER_TAIL: &[u8; 16] = &[
     4, 3, 2, 1, 0xcb, 0xfa, 0xe6, 0x11, 0xbd, 0x58, 0x64, 0, 0x6a, 0x79, 0x86, 0xd4,
 ];
 
@@ -45,7 +46,7 @@ fn told(m: &Msg) -> Told {
             relid,
             sub: 0,
             ..
-        } if *if_type == SERVICE => (1, *relid, 0),
+        } if *if_type == *SERVICE => (1, *relid, 0),
         Msg::RescindChannelOffer { relid, .. } => (2, *relid, 0),
         Msg::RequestOffers { .. } => (3, 0, 0),
         Msg::AllOffersDelivered { .. } => (4, 0, 0),
@@ -76,12 +77,12 @@ fn told(m: &Msg) -> Told {
             padding: 0,
             guest_endpoint,
             host_service,
-        } if *guest_endpoint == ENDPOINT && *host_service == SERVICE => (21, 0, 0),
+        } if *guest_endpoint == *ENDPOINT && *host_service == *SERVICE => (21, 0, 0),
         _ => (0, 0, 0),
     }
 }
 
-const GUEST_SAYS: [Told; 8] = [
+const GUEST_SAYS: &[Told] = &[
     (14, 0x5_0002, 0),
     (3, 0, 0),
     (21, 0, 0),
@@ -92,7 +93,7 @@ const GUEST_SAYS: [Told; 8] = [
     (16, 0, 0),
 ];
 
-const HOST_SAYS: [Told; 7] = [
+const HOST_SAYS: &[Told] = &[
     (15, 1, 0),
     (4, 0, 0),
     (1, 1, 0),
@@ -110,6 +111,22 @@ fn check_said(rt: &impl Abort, posted: &[Msg], says: &[Told]) {
     }
 }
 
+// Runs this part, which is the next one.
+fn runs<R: Abort + Threads + Wait + Sync>(rt: &R, path: ControlPath, part: Part) -> ControlPath
+    requires rests { Rests path }
+    requires part { part_after path.guest.plan path.guest.part ≡ Some part }
+    ensures rests { Rests result }
+    ensures part { result.guest.part ≡ Some part }
+{
+    match path.run(rt, part) {
+        Ok(path) => path,
+        Err(want) => {
+            drop(want);
+            panic!(rt; "a side wanted memory");
+        }
+    }
+}
+
 // Runs the next part, which is this one.
 fn go<R: Abort + Threads + Wait + Sync>(rt: &R, path: ControlPath, part: Part) -> ControlPath
     requires { Rests path }
@@ -119,10 +136,17 @@ fn go<R: Abort + Threads + Wait + Sync>(rt: &R, path: ControlPath, part: Part) -
         panic!(rt; "no part is left");
     };
     check(rt, next == part);
-    let Ok(path) = path.run(rt, next) else {
-        panic!(rt; "a side wanted memory");
+    runs(rt, path, next)
+}
+
+// Runs the farewell, which is the last part.
+fn farewell<R: Abort + Threads + Wait + Sync>(rt: &R, path: ControlPath) -> PathOver
+    requires { Rests path }
+{
+    let Some(Part::Unload) = path.next_part() else {
+        panic!(rt; "the farewell isn't next");
     };
-    path
+    runs(rt, path, Part::Unload).end(rt)
 }
 
 // Runs all parts of a socket's path.
@@ -133,23 +157,17 @@ fn stay<R: Abort + AllocGlobal + Threads + Wait + Sync>(rt: &R) -> PathOver {
     let contacted = go(rt, path, Part::Contact);
     let opened = go(rt, contacted, Part::PhaseStart(0));
     let ended = go(rt, opened, Part::PhaseEnd(0));
-    let Some(Part::Unload) = ended.next_part() else {
-        panic!(rt; "the farewell isn't next");
-    };
-    let Ok(path) = ended.run(rt, Part::Unload) else {
-        panic!(rt; "a side wanted memory");
-    };
-    path.end(rt)
+    farewell(rt, ended)
 }
 
 #[test]
 fn a_path_of_a_socket(rt: HostRuntime) {
     let over = stay(&rt);
     let (guest, host) = (&over.guest, &over.host);
-    check_said(&rt, guest.posted(), &GUEST_SAYS);
-    check_said(&rt, host.fed(), &GUEST_SAYS);
-    check_said(&rt, host.posted(), &HOST_SAYS);
-    check_said(&rt, guest.fed(), &HOST_SAYS);
+    check_said(&rt, guest.posted(), GUEST_SAYS);
+    check_said(&rt, host.fed(), GUEST_SAYS);
+    check_said(&rt, host.posted(), HOST_SAYS);
+    check_said(&rt, guest.fed(), HOST_SAYS);
     check(
         &rt,
         guest.version() == Some(Version(0x5_0002)) && host.version() == guest.version(),
@@ -159,6 +177,7 @@ fn a_path_of_a_socket(rt: HostRuntime) {
         guest.state(1) == Some(State::Released) && host.state(1) == Some(State::Released),
     );
     check(&rt, guest.state(2).is_none() && host.state(2).is_none());
+    drop(over);
 }
 
 // An empty box.
@@ -172,11 +191,12 @@ fn empty_box(rt: &(impl Abort + AllocGlobal)) -> MailBox
 }
 
 // These messages are in the box, and no other.
-fn check_sent(rt: &impl Abort, post: &mut MailBox, sends: &[Told]) {
+fn check_sent(rt: &impl Abort, mut post: MailBox, sends: &[Told]) {
     for want in sends {
         check(rt, post.take().as_ref().map(told) == Some(*want));
     }
     check(rt, post.take().is_none());
+    drop(post);
 }
 
 fn begin_guest(
@@ -185,20 +205,34 @@ fn begin_guest(
     part: Part,
     sends: &[Told],
 ) {
-    let mut post = empty_box(rt);
     let Some(next) = guest.next_part() else {
         panic!(rt; "no part is left");
     };
     check(rt, next == part);
     check(rt, guest.part().is_none() || guest.done());
+    let mut post = empty_box(rt);
     check(rt, guest.begin(next, &mut post).is_ok());
-    check_sent(rt, &mut post, sends);
+    check_sent(rt, post, sends);
 }
 
 fn feed_guest(rt: &(impl Abort + AllocGlobal), guest: &mut GuestControl, m: &Msg, sends: &[Told]) {
     let mut post = empty_box(rt);
     check(rt, guest.feed(m, &mut post) == Ok(()));
-    check_sent(rt, &mut post, sends);
+    check_sent(rt, post, sends);
+}
+
+// A message is refused so, and nothing comes of it.
+fn refuse_guest(
+    rt: &(impl Abort + AllocGlobal),
+    guest: &mut GuestControl,
+    m: &Msg,
+    fault: ControlFault,
+) {
+    let mut post = empty_box(rt);
+    let fed = guest.fed().len();
+    check(rt, guest.feed(m, &mut post) == Err(fault));
+    check_sent(rt, post, &[]);
+    check(rt, guest.fed().len() == fed);
 }
 
 // A guest whose contact is done, and which asked for its service.
@@ -247,10 +281,11 @@ fn a_guest_waits_for_its_service(rt: HostRuntime) {
     // a second offer adds no channel
     feed_guest(&rt, &mut guest, &service_at(PORT, 2, 0), none);
     check(&rt, guest.state(2).is_none());
+    drop(guest);
 }
 
 // An offer with this class id.
-fn offered_as(rt: &impl Abort, class: [u8; 16]) -> Msg {
+fn offered_as(rt: &impl Abort, class: &[u8; 16]) -> Msg {
     let Msg::OfferChannel {
         padding,
         if_instance,
@@ -273,7 +308,7 @@ fn offered_as(rt: &impl Abort, class: [u8; 16]) -> Msg {
     };
     Msg::OfferChannel {
         padding,
-        if_type: class,
+        if_type: *class,
         if_instance,
         reserved1,
         reserved2,
@@ -293,48 +328,56 @@ fn offered_as(rt: &impl Abort, class: [u8; 16]) -> Msg {
 #[test]
 fn an_id_with_another_tail_is_no_service(rt: HostRuntime) {
     let mut guest = dialed(&rt);
-    let mut post = empty_box(&rt);
-    let fed = guest.fed().len();
-    let fault = ControlFault::Offer(OfferFault::Class { id: OTHER_TAIL });
-    check(
-        &rt,
-        guest.feed(&offered_as(&rt, OTHER_TAIL), &mut post) == Err(fault),
-    );
-    check_sent(&rt, &mut post, &[]);
-    check(&rt, guest.fed().len() == fed && guest.state(1).is_none());
+    let fault = ControlFault::Offer(OfferFault::Class { id: *OTHER_TAIL });
+    refuse_guest(&rt, &mut guest, &offered_as(&rt, OTHER_TAIL), fault);
+    check(&rt, guest.state(1).is_none());
     feed_guest(
         &rt,
         &mut guest,
         &offered_as(&rt, SERVICE),
         &[(8, 1, 26), (9, GPADL, 8)],
     );
+    drop(guest);
 }
 
 fn begin_host(rt: &(impl Abort + AllocGlobal), host: &mut HostControl, part: Part, sends: &[Told]) {
-    let mut post = empty_box(rt);
     let Some(next) = host.next_part() else {
         panic!(rt; "no part is left");
     };
     check(rt, next == part);
     check(rt, host.part().is_none() || host.done());
+    let mut post = empty_box(rt);
     check(rt, host.begin(next, &mut post).is_ok());
-    check_sent(rt, &mut post, sends);
+    check_sent(rt, post, sends);
 }
 
 fn feed_host(rt: &(impl Abort + AllocGlobal), host: &mut HostControl, m: &Msg, sends: &[Told]) {
     let mut post = empty_box(rt);
     let fed = host.fed().len();
     check(rt, host.feed(m, &mut post) == Ok(()));
-    check_sent(rt, &mut post, sends);
+    check_sent(rt, post, sends);
     check(rt, host.fed().len() == fed + 1);
 }
 
+fn refuse_host(
+    rt: &(impl Abort + AllocGlobal),
+    host: &mut HostControl,
+    m: &Msg,
+    fault: ControlFault,
+) {
+    let mut post = empty_box(rt);
+    let fed = host.fed().len();
+    check(rt, host.feed(m, &mut post) == Err(fault));
+    check_sent(rt, post, &[]);
+    check(rt, host.fed().len() == fed);
+}
+
 // A guest asks for a service.
-fn connect(service: [u8; 16]) -> Msg {
+fn connect(service: &[u8; 16]) -> Msg {
     Msg::TlConnectRequest {
         padding: 0,
-        guest_endpoint: ENDPOINT,
-        host_service: service,
+        guest_endpoint: *ENDPOINT,
+        host_service: *service,
     }
 }
 
@@ -372,9 +415,8 @@ fn a_host_offers_its_service_once_it_is_asked_for(rt: HostRuntime) {
     let Ok(list) = to_messages(rt.alloc(), 1, GPADL, &[0; 34]) else {
         panic!(rt; "no list");
     };
-    let mut post = empty_box(&rt);
     let early = ControlFault::Relid { value: 1 };
-    check(&rt, host.feed(&list.as_slice()[0], &mut post) == Err(early));
+    refuse_host(&rt, &mut host, &list.as_slice()[0], early);
     feed_host(&rt, &mut host, &connect(OTHER_TAIL), &[]);
     feed_host(&rt, &mut host, &connect(ENDPOINT), &[]);
     check(&rt, host.state(1).is_none());
@@ -385,4 +427,6 @@ fn a_host_offers_its_service_once_it_is_asked_for(rt: HostRuntime) {
     check(&rt, host.state(2).is_none());
     feed_host(&rt, &mut host, &list.as_slice()[0], &[]);
     feed_host(&rt, &mut host, &list.as_slice()[1], &[(10, 1, 0)]);
+    drop(list);
+    drop(host);
 }

@@ -170,6 +170,7 @@ fn one_seat(rt: HostRuntime) -> Result<(), Fail> {
     asked(&rt, &mut seats[0], 1, (0, 8, 2));
     asked(&rt, &mut seats[0], 4_294_967_295, (1, 7, 1));
     asked(&rt, &mut seats[0], 0, (2, 7, 0));
+    drop(seats);
     Ok(())
 }
 
@@ -180,6 +181,7 @@ fn seats_in_turn(rt: HostRuntime) -> Result<(), Fail> {
     asked(&rt, &mut seats[2], 1, (0, 8, 1));
     asked(&rt, &mut seats[0], 2, (1, 10, 0));
     asked(&rt, &mut seats[2], 3, (2, 13, 0));
+    drop(seats);
     Ok(())
 }
 
@@ -188,30 +190,40 @@ fn no_calls(rt: HostRuntime) -> Result<(), Fail> {
     let (state, history) = fresh(rt.alloc(), Adder { base: 1, sum: 1 })?;
     check(&rt, (state.base, state.sum) == (1, 1));
     check(&rt, history.entries().len() == 0);
+    drop(history);
     Ok(())
+}
+
+/// Behind three entries and the sum 14 each of two seats made 5,000 calls that add 10.
+fn went_on(rt: &impl Abort, history: &History<Adder>) {
+    check(rt, history.entries().len() == 10_003);
+    check(rt, made_by(history, 3, 10_003, 0) == 5000);
+    check(rt, made_by(history, 3, 10_003, 1) == 5000);
+    let mut sum = 14u32;
+    for e in history.entries().iter().skip(3) {
+        sum = sum.wrapping_add(10);
+        check(rt, (e.request, e.reply) == (10, sum));
+    }
 }
 
 // Two threads, 5,000 calls each, behind the history of an earlier lock.
 #[test]
-fn two_threads_behind_a_history(rt: HostRuntime) -> Result<(), Fail> {
-    let (state, history) = phases(&rt, rt.alloc(), Adder { base: 5, sum: 5 }, 1, 3)?;
+fn two_threads_behind_a_history(rt: HostRuntime) {
+    let (state, history) = phases(&rt, rt.alloc(), Adder { base: 5, sum: 5 }, 1, 3).expect(
+        &rt, "memory",
+    );
     check(&rt, (state.sum, history.entries().len()) == (14, 3));
     let (first, second, third) = (entry(&history, 0), entry(&history, 1), entry(&history, 2));
-    let (state, history) = run_on(&rt, rt.alloc(), state, history, &[5000, 5000], 10)?;
+    let (state, history) = run_on(&rt, rt.alloc(), state, history, &[5000, 5000], 10).expect(
+        &rt, "memory",
+    );
     check(&rt, (state.base, state.sum) == (5, 100_014));
-    check(&rt, history.entries().len() == 10_003);
     check(
         &rt,
         entry(&history, 0) == first && entry(&history, 1) == second && entry(&history, 2) == third,
     );
-    check(&rt, made_by(&history, 3, 10_003, 0) == 5000);
-    check(&rt, made_by(&history, 3, 10_003, 1) == 5000);
-    let mut sum = 14u32;
-    for e in history.entries().iter().skip(3) {
-        sum = sum.wrapping_add(10);
-        check(&rt, (e.request, e.reply) == (10, sum));
-    }
-    Ok(())
+    went_on(&rt, &history);
+    drop(history);
 }
 
 // Each phase opens the lock again with what the phase before left.
@@ -224,5 +236,6 @@ fn a_hundred_phases(rt: HostRuntime) -> Result<(), Fail> {
         check(&rt, made_by(&history, 3 * phase, 3 * phase + 3, 0) == 2);
         check(&rt, made_by(&history, 3 * phase, 3 * phase + 3, 1) == 1);
     }
+    drop(history);
     Ok(())
 }

@@ -51,20 +51,27 @@ fn answered(rt: &impl Abort, operation: u8, ask: [u8; 6], want: [u8; 6]) {
     check(rt, answer(&p) == read(rt, &reply));
 }
 
+/// The operation of what is asked in the start-up, and the bytes behind the flags of what is asked and of its answer.
+const ANSWERED: [(u8, [u8; 6], [u8; 6]); 12] = [
+    (7, [0, 0, 0, 0, 0, 0], [0, 0, 0, 0, 0, 0]),
+    (8, [0, 0, 0, 0, 9, 0], [0, 0, 0, 0, 9, 0]),
+    (11, [0, 0, 0, 0, 0, 0], [0, 0, 0, 0, 0, 0]),
+    (9, [0, 0, 0, 0, 0x02, 6], [0, 0, 0, 0, 0x02, 6]),
+    (9, [0, 0, 0, 0, 0x00, 6], [0, 0, 0, 0, 0x00, 6]),
+    (9, [0, 0, 0, 0, 0x01, 5], [0, 0, 0, 0, 0x01, 5]),
+    (9, [0, 0, 0, 0, 0x00, 0], [1, 0, 0, 0, 0x00, 0]),
+    (13, [0, 0, 0, 0, 0, 0], [0, 0, 0, 0, 0, 0]),
+    (13, [0, 0, 0, 0, 3, 0], [0, 0, 0, 0, 3, 0]),
+    (13, [0, 0, 0, 0, 4, 0], [1, 0, 0, 0, 4, 0]),
+    (2, [0, 0, 0, 0, 0, 0], [1, 0, 0, 0, 0, 0]),
+    (1, [5, 0, 0, 0, 0, 0], [1, 0, 0, 0, 0, 0]),
+];
+
 #[test]
 fn answers_the_start_up(rt: HostRuntime) {
-    answered(&rt, 7, [0, 0, 0, 0, 0, 0], [0, 0, 0, 0, 0, 0]);
-    answered(&rt, 8, [0, 0, 0, 0, 9, 0], [0, 0, 0, 0, 9, 0]);
-    answered(&rt, 11, [0, 0, 0, 0, 0, 0], [0, 0, 0, 0, 0, 0]);
-    answered(&rt, 9, [0, 0, 0, 0, 0x02, 6], [0, 0, 0, 0, 0x02, 6]);
-    answered(&rt, 9, [0, 0, 0, 0, 0x00, 6], [0, 0, 0, 0, 0x00, 6]);
-    answered(&rt, 9, [0, 0, 0, 0, 0x01, 5], [0, 0, 0, 0, 0x01, 5]);
-    answered(&rt, 9, [0, 0, 0, 0, 0x00, 0], [1, 0, 0, 0, 0x00, 0]);
-    answered(&rt, 13, [0, 0, 0, 0, 0, 0], [0, 0, 0, 0, 0, 0]);
-    answered(&rt, 13, [0, 0, 0, 0, 3, 0], [0, 0, 0, 0, 3, 0]);
-    answered(&rt, 13, [0, 0, 0, 0, 4, 0], [1, 0, 0, 0, 4, 0]);
-    answered(&rt, 2, [0, 0, 0, 0, 0, 0], [1, 0, 0, 0, 0, 0]);
-    answered(&rt, 1, [5, 0, 0, 0, 0, 0], [1, 0, 0, 0, 0, 0]);
+    for (operation, ask, want) in ANSWERED {
+        answered(&rt, operation, ask, want);
+    }
 }
 
 /// The guest asks this in the start-up.

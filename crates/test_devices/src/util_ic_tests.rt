@@ -39,202 +39,189 @@ fn answers(rt: &impl Abort, kind: DeviceKind, len: usize, request: &str, answer:
     check(rt, reply[count..].iter().all(|byte| *byte == 0xee));
 }
 
-// A request that both services answer alike.
-fn both_answer(rt: &impl Abort, len: usize, request: &str, answer: &str)
-    requires { len ≤ 2112 }
+// How many bytes a request has, its first bytes, and those of its answer.
+type Case = (usize, &'static str, &'static str);
+
+// Each request is answered so.
+fn all_answer(rt: &impl Abort, kind: DeviceKind, cases: &[Case])
+    requires { IsUtility kind }
 {
-    answers(rt, DeviceKind::Beat, len, request, answer);
-    answers(rt, DeviceKind::Down, len, request, answer);
+    for (len, request, answer) in cases {
+        check(rt, *len <= 2112);
+        answers(rt, kind, *len, request, answer);
+    }
 }
 
-#[test]
-fn answers_on_both_channels(rt: HostRuntime) {
+// Requests that both services answer alike.
+const BOTH: &[Case] = &[
     // The start-up negotiate, 52 bytes
-    both_answer(
-        &rt,
+    (
         52,
         "000000002c0000000000000000000000000018000000000000030000020002000000000003000000010000000300000001",
         "000000002c0000000000000000000000000018000000000000050000010001000000000003000000030000000300000001",
-    );
+    ),
     // Frame 1.0 message 1.0
-    both_answer(
-        &rt,
+    (
         44,
         "0000000024000000030000000000030000001000000000000003000001000100000000000100000001",
         "0000000024000000030000000000030000001000000000000005000001000100000000000100000001",
-    );
+    ),
     // Frame 2.0 message 3.0
-    both_answer(
-        &rt,
+    (
         44,
         "0000000024000000030000000000030000001000000000000003000001000100000000000200000003",
         "0000000024000000030000000000030000001000000000000005000000000000000000000200000003",
-    );
+    ),
     // Counts past the end
-    both_answer(
-        &rt,
+    (
         44,
         "00000000240000000300000000000300000010000000000000030000020002",
         "00000000240000000300000000000300000010000540008000050000020002",
-    );
+    ),
     // No versions
-    both_answer(
-        &rt,
+    (
         44,
         "0000000024000000030000000000030000001000000000000003",
         "0000000024000000030000000000030000001000000000000005",
-    );
+    ),
     // 35 bytes
-    both_answer(
-        &rt,
+    (
         35,
         "0000000024000000030000000000030000001000000000000003",
         "0000000024000000030000000000030000001000054000800005",
-    );
+    ),
     // 28 bytes
-    both_answer(
-        &rt,
+    (
         28,
         "0000000024000000030000000000030000001000000000000003",
         "0000000024000000030000000000030000001000054000800005",
-    );
+    ),
     // 8 bytes
-    both_answer(
-        &rt,
+    (
         8,
         "0000000024",
         "0000000000000000000000000000000000000000054000800005",
-    );
+    ),
     // Shutdown flags 4
-    both_answer(
-        &rt,
+    (
         2088,
         "0000000020080000030000000300030000000c080000000000030000000000000000000004",
         "0000000020080000030000000300030000000c080540008000050000000000000000000004",
-    );
+    ),
     // Shutdown flags 6
-    both_answer(
-        &rt,
+    (
         2088,
         "0000000020080000030000000300030000000c080000000000030000000000000000000006",
         "0000000020080000030000000300030000000c080540008000050000000000000000000006",
-    );
+    ),
     // Shutdown flags 2147483648
-    both_answer(
-        &rt,
+    (
         2088,
         "0000000020080000030000000300030000000c080000000000030000000000000000000000000080",
         "0000000020080000030000000300030000000c080540008000050000000000000000000000000080",
-    );
+    ),
     // Shutdown cut at 39 bytes
-    both_answer(
-        &rt,
+    (
         39,
         "0000000020080000030000000300030000000c08000000000003",
         "0000000020080000030000000300030000000c08054000800005",
-    );
+    ),
     // Heartbeat of 35 bytes
-    both_answer(
-        &rt,
+    (
         35,
         "000000001c000000030000000100030000000800000000000003000011111111111111",
         "000000001c000000030000000100030000000800054000800005000011111111111111",
-    );
+    ),
     // Type 9
-    both_answer(
-        &rt,
+    (
         36,
         "000000001c00000003000000090003000000080000000000000300001111111111111111",
         "000000001c00000003000000090003000000080005400080000500001111111111111111",
-    );
-}
+    ),
+];
 
 #[test]
-fn answers_on_a_heartbeat_channel(rt: HostRuntime) {
+fn answers_on_both_channels(rt: HostRuntime) {
+    all_answer(&rt, DeviceKind::Beat, BOTH);
+    all_answer(&rt, DeviceKind::Down, BOTH);
+}
+
+// Requests on a heartbeat channel.
+const BEAT: &[Case] = &[
     // Heartbeat seq 41
-    answers(
-        &rt,
-        DeviceKind::Beat,
+    (
         68,
         "000000003c000000030000000100030000002800000000000003000029",
         "000000003c00000003000000010003000000280000000000000500002a",
-    );
+    ),
     // Heartbeat seq 18446744073709551615
-    answers(
-        &rt,
-        DeviceKind::Beat,
+    (
         68,
         "000000003c0000000300000001000300000028000000000000030000ffffffffffffffff",
         "000000003c000000030000000100030000002800000000000005",
-    );
+    ),
     // Shutdown flags 0
-    answers(
-        &rt,
-        DeviceKind::Beat,
+    (
         2088,
         "0000000020080000030000000300030000000c08000000000003",
         "0000000020080000030000000300030000000c08054000800005",
-    );
+    ),
     // Shutdown flags 2
-    answers(
-        &rt,
-        DeviceKind::Beat,
+    (
         2088,
         "0000000020080000030000000300030000000c080000000000030000000000000000000002",
         "0000000020080000030000000300030000000c080540008000050000000000000000000002",
-    );
+    ),
     // Transaction 9, reserved 1
-    answers(
-        &rt,
-        DeviceKind::Beat,
+    (
         36,
         "000000001c00000003000000010003000000080000000000090301001111111111111111",
         "000000001c00000003000000010003000000080000000000090501001211111111111111",
-    );
-}
+    ),
+];
 
 #[test]
-fn answers_on_a_shutdown_channel(rt: HostRuntime) {
+fn answers_on_a_heartbeat_channel(rt: HostRuntime) {
+    all_answer(&rt, DeviceKind::Beat, BEAT);
+}
+
+// Requests on a shutdown channel.
+const DOWN: &[Case] = &[
     // Heartbeat seq 41
-    answers(
-        &rt,
-        DeviceKind::Down,
+    (
         68,
         "000000003c000000030000000100030000002800000000000003000029",
         "000000003c000000030000000100030000002800054000800005000029",
-    );
+    ),
     // Heartbeat seq 18446744073709551615
-    answers(
-        &rt,
-        DeviceKind::Down,
+    (
         68,
         "000000003c0000000300000001000300000028000000000000030000ffffffffffffffff",
         "000000003c0000000300000001000300000028000540008000050000ffffffffffffffff",
-    );
+    ),
     // Shutdown flags 0
-    answers(
-        &rt,
-        DeviceKind::Down,
+    (
         2088,
         "0000000020080000030000000300030000000c08000000000003",
         "0000000020080000030000000300030000000c08000000000005",
-    );
+    ),
     // Shutdown flags 2
-    answers(
-        &rt,
-        DeviceKind::Down,
+    (
         2088,
         "0000000020080000030000000300030000000c080000000000030000000000000000000002",
         "0000000020080000030000000300030000000c080000000000050000000000000000000002",
-    );
+    ),
     // Transaction 9, reserved 1
-    answers(
-        &rt,
-        DeviceKind::Down,
+    (
         36,
         "000000001c00000003000000010003000000080000000000090301001111111111111111",
         "000000001c00000003000000010003000000080005400080090501001111111111111111",
-    );
+    ),
+];
+
+#[test]
+fn answers_on_a_shutdown_channel(rt: HostRuntime) {
+    all_answer(&rt, DeviceKind::Down, DOWN);
 }
 
 // The host's request is these bytes, with zeros after them, and the guest reads it.

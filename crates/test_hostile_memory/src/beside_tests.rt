@@ -2,7 +2,7 @@
 ghost use Rattle.std.specs.Prelude.{◌≡◌};
 
 use crate::check::check;
-use crate::opened::{leave, opened};
+use crate::opened::opened;
 use hostile_memory::{OpenEnd, Scribbler};
 use ring_core::{Armed, Bad, Place, Ring, Side, TakeRefusal, Why, may_take};
 use std::alloc::AllocGlobal;
@@ -73,7 +73,7 @@ fn takes(end: &mut OpenEnd) -> Option<u32> {
 // The same, and the end goes.
 fn takes_all(mut end: OpenEnd) -> Option<u32> {
     let made = takes(&mut end);
-    leave(end);
+    drop(end);
     made
 }
 
@@ -126,7 +126,7 @@ fn wakes<R: Wait>(rt: &R, end: &mut OpenEnd) -> bool {
 // The same, and the end goes.
 fn wakes_once<R: Wait>(rt: &R, mut end: OpenEnd) -> bool {
     let awake = wakes(rt, &mut end);
-    leave(end);
+    drop(end);
     awake
 }
 

@@ -2,7 +2,7 @@
 ghost use Rattle.std.specs.Prelude.{◌≡◌};
 
 use hostile_memory::{OpenEnd, OpenMem, Scribbler};
-use ring_core::{End, Room, Seatlike};
+use ring_core::Room;
 use std::alloc::AllocGlobal;
 use std::process::Abort;
 
@@ -18,6 +18,3 @@ pub fn opened(rt: &(impl Abort + AllocGlobal)) -> (OpenEnd, Scribbler)
     end.reserve(room, room).expect(rt, "memory");
     (end, hand)
 }
-
-/// An end goes, with its lists and its memory: its parts are let go in one place, not at the end of each test.
-pub fn leave<S: Seatlike + Drop>(_end: End<S>) {}

@@ -2,7 +2,7 @@
 ghost use Rattle.std.specs.Prelude.{◌≡◌};
 
 use crate::check::check;
-use crate::opened::{leave, opened};
+use crate::opened::opened;
 use hostile_memory::{OpenEnd, Scribbler};
 use ring_core::{Bad, Place, Ring, TakeRefusal, Why, may_take};
 use std::alloc::AllocGlobal;
@@ -47,7 +47,7 @@ fn is_refused(rt: &(impl Abort + AllocGlobal), first: u64, index: u64, bad: Bad)
     write(&mut hand, 0x3_0002_0006, 32);
     let why = Why::Malformed(bad);
     let later = refusal(&mut end) == Some(TakeRefusal::Stopped { why });
-    leave(end);
+    drop(end);
     first_refusal && later
 }
 
@@ -61,7 +61,7 @@ fn a_packet_that_a_hand_wrote_is_taken(rt: HostRuntime) {
         &rt,
         refusal(&mut end) == Some(TakeRefusal::Empty { at: 32 }),
     );
-    leave(end);
+    drop(end);
 }
 
 #[test]
@@ -92,5 +92,5 @@ fn a_hand_reads_what_stands_there(rt: HostRuntime) {
         end.commit();
     }
     check(&rt, hand.look(Place::Read(Ring::ToGuest)) == 32);
-    leave(end);
+    drop(end);
 }

@@ -67,9 +67,6 @@ fn has<S: Seatlike>(e: &LeanEnd<S>, part: Option<Loan>, words: &[u64]) -> bool {
     }
 }
 
-// An end goes, with its buffers and its seat.
-fn leave(_end: LeanEnd<TableSeat>) {}
-
 #[test]
 fn pages_go_out_and_back(rt: HostRuntime) {
     let (guest, host) = ChannelMem::make(rt.alloc(), 1, 2).expect(&rt, "memory");
@@ -98,8 +95,8 @@ fn pages_go_out_and_back(rt: HostRuntime) {
         check(&rt, free(&mut guest) && free(&mut host));
     }
     check(&rt, guest.room() == room);
-    leave(guest);
-    leave(host);
+    drop(guest);
+    drop(host);
 }
 
 // Gives the cells of all that was taken back.
@@ -137,6 +134,6 @@ fn open_ids_lend_no_page(rt: HostRuntime) {
         !may_send(&host, &completion(0)) && !may_send(&guest, &other),
     );
     check(&rt, takes(&mut guest).is_some() && may_send(&guest, &other));
-    leave(guest);
-    leave(host);
+    drop(guest);
+    drop(host);
 }

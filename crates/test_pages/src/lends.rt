@@ -62,6 +62,3 @@ pub fn takes<S: Seatlike>(e: &mut End<S>) -> bool
     e.commit();
     true
 }
-
-/// An end goes, with its lists and its memory: its parts are let go in one place, not at the end of each test.
-pub fn leave<S: Seatlike + Drop>(_end: End<S>) {}

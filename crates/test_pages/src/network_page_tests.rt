@@ -1,6 +1,6 @@
 //! Lends of a network's pages, by turns over one memory: the guest's by an RNDIS packet, the host's by a packet with a range of the receive buffer.
 use crate::check::check;
-use crate::lends::{leave, sends, stores, takes};
+use crate::lends::{sends, stores, takes};
 use ring_core::{End, Room, Seatlike, Side, SoloMem};
 use std::alloc::AllocGlobal;
 use std::process::Abort;
@@ -77,8 +77,8 @@ fn pages_of_both_buffers_go_out_and_come_back(rt: HostRuntime) {
         &rt,
         goes_and_returns(&mut h, &mut g, 66, &buffer(2, 16), 11),
     );
-    leave(g);
-    leave(h);
+    drop(g);
+    drop(h);
 }
 
 // Neither end can lend a page of the other one's buffer.
@@ -91,6 +91,6 @@ fn an_end_lends_its_own_buffer_alone(rt: HostRuntime) {
         &rt,
         hands(&mut g, &mut h) && !sends(&mut h, &section(1, 16)),
     );
-    leave(g);
-    leave(h);
+    drop(g);
+    drop(h);
 }

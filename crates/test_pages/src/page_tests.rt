@@ -1,6 +1,6 @@
 //! Lends of data pages by turns over one memory.
 use crate::check::check;
-use crate::lends::{completion, leave, request, sends, stores, takes};
+use crate::lends::{completion, request, sends, stores, takes};
 use ring_core::{End, Room, Seatlike, Side, SoloMem, may_take};
 use std::alloc::AllocGlobal;
 use std::process::Abort;
@@ -124,7 +124,7 @@ fn pages_go_out_and_come_back(rt: HostRuntime) {
     let lent = lends_all(&mut g, &mut h);
     let kept = kept_all(g, 100);
     check(&rt, home && lent && kept);
-    leave(h);
+    drop(h);
 }
 
 // Whether an end takes a packet, and the words that come with it are these.
@@ -146,8 +146,8 @@ fn a_load_lends_the_words_that_were_stored(rt: HostRuntime) {
     check(&rt, sends(&mut g, &request(1, 3)) && hands(&mut g, &mut h));
     check(&rt, g.sent().lent(0) == Some(&[11, 0, 13]));
     check(&rt, loads(&mut h, &[11, 0, 13]));
-    leave(g);
-    leave(h);
+    drop(g);
+    drop(h);
 }
 
 // The host sends a request for a page that the channel hasn't, and none for a page that it hasn't itself. The guest gets it without words.
@@ -163,8 +163,8 @@ fn a_page_that_cannot_be_held_lends_nothing(rt: HostRuntime) {
     let mut h = end(&rt, Side::Host);
     let nothing = lends_nothing(&mut g, &mut h);
     check(&rt, nothing && g.owns(0) && !g.owns(5));
-    leave(g);
-    leave(h);
+    drop(g);
+    drop(h);
 }
 
 // Takes a packet by the call that lends its words, and loads what came with it: whether these are the packet and its page words.
@@ -193,6 +193,6 @@ fn a_take_lends_a_packet_whose_page_words_are_due(rt: HostRuntime) {
         stores(&mut g, 0, 1, 5) && sends(&mut g, &p) && hands(&mut g, &mut h),
     );
     check(&rt, takes_both(&mut h, &p, &[0, 5]) && h.owns(0));
-    leave(g);
-    leave(h);
+    drop(g);
+    drop(h);
 }

@@ -3,7 +3,7 @@ ghost use Rattle.std.specs.Prelude.{◌≡◌, ◌%◌, ◌<◌};
 ghost use Rattle.ring_machine.specs.Places.{IsPlaceOf};
 
 use crate::check::check;
-use crate::lends::{leave, request, sends, takes};
+use crate::lends::{request, sends, takes};
 use ring_core::{Change, End, Place, Ring, Room, Seatlike, Side, ToldMem};
 use std::alloc::AllocGlobal;
 use std::process::Abort;
@@ -63,7 +63,7 @@ fn host_takes(rt: &(impl Abort + AllocGlobal), words: [u64; 5], lent: usize) -> 
     let mut h = host_of(rt, words);
     check(rt, takes(&mut h) && came_with(&h, lent));
     let held = h.owns(0);
-    leave(h);
+    drop(h);
     held
 }
 
@@ -89,7 +89,7 @@ fn an_end_does_not_hold_its_own_page(rt: HostRuntime) {
     puts(&mut told, Ring::ToGuest, 0, request(0, 3));
     let mut g = end(&rt, Side::Guest, told);
     check(&rt, takes(&mut g) && came_with(&g, 0) && g.owns(0));
-    leave(g);
+    drop(g);
 }
 
 // A page that is held isn't held under another id.
@@ -104,7 +104,7 @@ fn a_page_is_held_once(rt: HostRuntime) {
     check(&rt, takes(&mut h) && came_with(&h, 3));
     check(&rt, takes(&mut h) && came_with(&h, 0));
     check(&rt, h.owns(0));
-    leave(h);
+    drop(h);
 }
 
 // A completion with another id doesn't bring a page back, and one with its id does.
@@ -120,7 +120,7 @@ fn only_its_completion_brings_a_page_back(rt: HostRuntime) {
     check(&rt, sends(&mut g, &request(0, 3)) && !g.owns(0));
     check(&rt, takes(&mut g) && came_with(&g, 0) && !g.owns(0));
     check(&rt, takes(&mut g) && came_with(&g, 3) && g.owns(0));
-    leave(g);
+    drop(g);
 }
 
 // The host, to which a request for the first three words of a page came, 1, 2 and 3. A word changes just before a step.

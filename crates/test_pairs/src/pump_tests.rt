@@ -74,4 +74,6 @@ fn a_pair_is_pumped_until_both_have_ended(rt: HostRuntime) {
         &rt,
         has_seq(&host.replies[0], 8) && has_seq(&host.replies[1], 9),
     );
+    drop(guest);
+    drop(host);
 }

@@ -89,6 +89,7 @@ fn run_guest(rt: &(impl Wait + Abort), guest: GuestWorker)
     check(rt, done.serials.as_slice() == [0, 1].as_slice());
     check(rt, done.replies.is_empty());
     check(rt, matches!(done.seat, GuestSeat::Beat(_)));
+    drop(done);
 }
 
 // The host has both replies, and ends.
@@ -102,6 +103,7 @@ fn run_host(rt: &(impl Wait + Abort), host: HostWorker)
     check(rt, seq_of(&done.replies[0]) == Some(8));
     check(rt, seq_of(&done.replies[1]) == Some(9));
     check(rt, matches!(done.seat, HostSeat::None));
+    drop(done);
 }
 
 #[test]

@@ -18,5 +18,6 @@ pub fn only_seat<M: Machine>(
     let Some(seat) = seats.pop() else {
         unreachable!()
     };
+    drop(seats);
     Ok(seat)
 }

@@ -1,5 +1,5 @@
 //! A source that fails at each of its calls in turn, and a sink that does so.
-use crate::call::{call, sink_of, source_of};
+use crate::call::{call_words, end_of, sink_of, source_of};
 use crate::check::check;
 use io_edge::{MemSink, MemSource, NoGate};
 use std::alloc::AllocGlobal;
@@ -62,8 +62,11 @@ fn failing_sink(rt: &(impl Abort + AllocGlobal), fails: u32) -> MemSink {
 fn read_fails(rt: &(impl Threads + Wait + Sync + Abort + AllocGlobal), fails: u32) -> (u8, usize) {
     let mut source = failing_source(rt, FOUR_DEVICES, fails);
     let mut sink = sink_of(rt);
-    let outcome = call(rt, b"run", &mut source, &mut sink, &NoGate);
-    (outcome.status, sink.bytes().len())
+    let (status, _) = end_of(call_words(rt, &[b"run"], &mut source, &mut sink, &NoGate));
+    let written = sink.bytes().len();
+    drop(source);
+    drop(sink);
+    (status, written)
 }
 
 // The status where writing fails at one call, and whether a front of the report is written, how long.
@@ -73,13 +76,16 @@ fn write_fails(
 ) -> (u8, bool, usize) {
     let mut sink = failing_sink(rt, fails);
     let mut source = source_of(rt, FOUR_DEVICES);
-    let outcome = call(rt, b"run", &mut source, &mut sink, &NoGate);
+    let (status, _) = end_of(call_words(rt, &[b"run"], &mut source, &mut sink, &NoGate));
     let written = sink.bytes();
-    (
-        outcome.status,
+    let ended = (
+        status,
         FOUR_DEVICES_REPORT.starts_with(written),
         written.len(),
-    )
+    );
+    drop(source);
+    drop(sink);
+    ended
 }
 
 #[test]

@@ -1,5 +1,5 @@
 //! Loads: their line, their words, and that they read nothing.
-use crate::call::{call_words, sink_of, source_of};
+use crate::call::answers_one;
 use crate::check::check;
 use io_edge::NoGate;
 use std::alloc::AllocGlobal;
@@ -14,9 +14,7 @@ fn loads(
     status: u8,
     output: &[u8],
 ) -> bool {
-    let mut sink = sink_of(rt);
-    let outcome = call_words(rt, words, &mut source_of(rt, b"wrong"), &mut sink, &NoGate);
-    outcome.status == status && sink.bytes() == output
+    answers_one(rt, words, b"wrong", &NoGate, status, &[output])
 }
 
 // 500 blocks of 512 bytes: the fills (3 + 7 * k) % 256 sum to 62,718.
@@ -33,7 +31,7 @@ fn load_of_two(rt: HostRuntime) {
     check(&rt, loads(&rt, &[b"load", b"4294967295", b"2"], 0, line));
 }
 
-const NO_COMMAND: [[&[u8]; 3]; 7] = [
+const NO_COMMAND: &[[&[u8]; 3]] = &[
     [b"load", b"3", b"0"],
     [b"load", b"3", b"7"],
     [b"load", b"3", b"8194"],
@@ -45,7 +43,7 @@ const NO_COMMAND: [[&[u8]; 3]; 7] = [
 
 #[test]
 fn words_of_no_load(rt: HostRuntime) {
-    for words in &NO_COMMAND {
+    for words in NO_COMMAND {
         check(&rt, loads(&rt, words, 1, b""));
     }
     check(&rt, loads(&rt, &[b"load", b"3"], 1, b""));

@@ -1,7 +1,6 @@
 //! Lines that move a device's interrupts to another virtual processor.
-use crate::call::{answers, refusal};
-use crate::check::check;
-use bus_script::{ScriptFault, Why6};
+use crate::call::{check_answers, check_refusals};
+use bus_script::Why6;
 
 // Scripts, and their reports: the host answers from version 5.3 on, says nothing at 4.1 to 5.2, and no message is sent below.
 const MOVES: &[(&[u8], &[u8])] = &[
@@ -37,9 +36,7 @@ const MOVES: &[(&[u8], &[u8])] = &[
 
 #[test]
 fn devices_are_moved(rt: HostRuntime) {
-    for (script, report) in MOVES {
-        check(&rt, answers(&rt, b"run", script, 0, report));
-    }
+    check_answers(&rt, b"run", MOVES);
 }
 
 // Scripts that are refused, with their first wrong line and the reason.
@@ -54,11 +51,5 @@ const WRONG: &[(&[u8], u32, Why6)] = &[
 
 #[test]
 fn wrong_moves_are_refused(rt: HostRuntime) {
-    for (script, line, why) in WRONG {
-        let fault = ScriptFault {
-            line: *line,
-            why: *why,
-        };
-        check(&rt, refusal(&rt, b"run", script) == Some(fault));
-    }
+    check_refusals(&rt, b"run", WRONG);
 }

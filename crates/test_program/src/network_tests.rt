@@ -1,7 +1,7 @@
 //! Networks: what their adapters answer, over phases and stops, and what goes across with it.
-use crate::call::{answers, outcome_of, refusal};
+use crate::call::{check_answers, check_refusals, outcome_of};
 use crate::check::check;
-use bus_script::{ScriptFault, Why6};
+use bus_script::Why6;
 use ring_core::Packets;
 use std::alloc::AllocGlobal;
 use std::process::Abort;
@@ -132,9 +132,7 @@ end requests 6 done 6 rescinded 0
 
 #[test]
 fn networks_answer(rt: HostRuntime) {
-    for (input, output) in SCRIPTS {
-        check(&rt, answers(&rt, b"run", input, 0, output));
-    }
+    check_answers(&rt, b"run", SCRIPTS);
 }
 
 const WRONG: &[(&[u8], u32, Why6)] = &[
@@ -164,13 +162,7 @@ const WRONG: &[(&[u8], u32, Why6)] = &[
 
 #[test]
 fn wrong_lines_are_refused(rt: HostRuntime) {
-    for (input, line, why) in WRONG {
-        let fault = ScriptFault {
-            line: *line,
-            why: *why,
-        };
-        check(&rt, refusal(&rt, b"run", input) == Some(fault));
-    }
+    check_refusals(&rt, b"run", WRONG);
 }
 
 // How many packets the guest and the host sent on the first channel.
@@ -192,6 +184,7 @@ fn messages_come_back_and_are_completed(rt: HostRuntime) {
     // An init, a version, two page lists, an initialize and four requests, and the completions of four messages: of the initialize, of two queries and of one frame.
     // The version has no completion.
     check(&rt, counts(&outcome) == (13, 12));
+    drop(outcome);
 }
 
 // Whether the guest's messages name sections of these sizes, in order, and each went with as many page words.
@@ -255,9 +248,10 @@ fn messages_stand_in_pages(rt: HostRuntime) {
         has_sections(run.settled.guest_sent(), &[24, 28, 28, 58, 58]),
     );
     check(&rt, has_parts(run.settled.host_sent(), &[52, 28, 24, 58]));
+    drop(outcome);
 }
 
-const WINDOWS: [&[u8]; 3] = [b"1", b"4", b"64"];
+const WINDOWS: &[&[u8]] = &[b"1", b"4", b"64"];
 
 const OFFER: &[u8] = b"offer net n 020000000001 0200000000fe\nwindow n ";
 
@@ -276,22 +270,21 @@ fn keepalives(rt: &(impl Abort + AllocGlobal), window: &[u8]) -> Vec<u8> {
     text
 }
 
-// How many windows let all of them be answered, each by a message and a completion.
-fn answered(rt: &(impl Threads + Wait + Sync + Abort + AllocGlobal)) -> u32 {
-    let mut all = 0u32;
-    for window in WINDOWS {
-        let outcome = outcome_of(rt, &keepalives(rt, window));
-        if outcome.status == 0
-            && outcome.settled.len() == 1
-            && counts(&outcome) == (2 * MANY + 6, 2 * MANY + 5)
-        {
-            all = all.wrapping_add(1);
-        }
-    }
+// Whether this window lets all of them be answered, each by a message and a completion.
+fn are_answered(rt: &(impl Threads + Wait + Sync + Abort + AllocGlobal), window: &[u8]) -> bool {
+    let script = keepalives(rt, window);
+    let outcome = outcome_of(rt, &script);
+    let all = outcome.status == 0
+        && outcome.settled.len() == 1
+        && counts(&outcome) == (2 * MANY + 6, 2 * MANY + 5);
+    drop(outcome);
+    drop(script);
     all
 }
 
 #[test]
 fn a_host_with_a_full_table_takes_completions(rt: HostRuntime) {
-    check(&rt, answered(&rt) == 3);
+    for window in WINDOWS {
+        check(&rt, are_answered(&rt, window));
+    }
 }

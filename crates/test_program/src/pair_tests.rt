@@ -1,10 +1,9 @@
 //! Key-value exchange: what its service answers, over phases, beside other devices, and with a full pool.
-use crate::call::answers;
+use crate::call::{answers, check_answers};
 use crate::check::check;
 use script_text::push_decimal;
-use std::alloc::{AllocError, Global};
+use std::alloc::AllocGlobal;
 use std::process::Abort;
-use std::test::Fail;
 
 const SCRIPTS: &[(&[u8], &[u8])] = &[
     (
@@ -124,43 +123,45 @@ end requests 8 done 7 rescinded 1
 
 #[test]
 fn pairs_are_exchanged(rt: HostRuntime) {
-    for (script, report) in SCRIPTS {
-        check(&rt, answers(&rt, b"run", script, 0, report));
-    }
+    check_answers(&rt, b"run", SCRIPTS);
+}
+
+// These bytes go at the end of a text.
+fn push(rt: &impl Abort, text: &mut Vec<u8>, bytes: &[u8]) {
+    text.extend_from_slice(bytes).expect(rt, "memory");
 }
 
 // So many sets of new keys in one pool, `k256` and so on, and then these lines.
-fn sets_and(alloc: Global, count: u64, lines: &[u8]) -> Result<Vec<u8>, AllocError> {
-    let mut script = Vec::new(alloc);
-    script.extend_from_slice(b"offer kvp k\n")?;
+fn sets_and(rt: &(impl Abort + AllocGlobal), count: u64, lines: &[u8]) -> Vec<u8> {
+    let mut script = Vec::new(rt.alloc());
+    push(rt, &mut script, b"offer kvp k\n");
     for i in 0..count {
-        script.extend_from_slice(b"kvp k set 2 k")?;
-        push_decimal(&mut script, 256 + (i & 255))?;
-        script.extend_from_slice(b" 1\n")?;
+        push(rt, &mut script, b"kvp k set 2 k");
+        push_decimal(&mut script, 256 + (i & 255)).expect(rt, "memory");
+        push(rt, &mut script, b" 1\n");
     }
-    script.extend_from_slice(lines)?;
-    Ok(script)
+    push(rt, &mut script, lines);
+    script
 }
 
 // What comes of so many sets, and then these lines of a report.
-fn done_and(alloc: Global, count: u64, lines: &[u8]) -> Result<Vec<u8>, AllocError> {
-    let mut report = Vec::new(alloc);
+fn done_and(rt: &(impl Abort + AllocGlobal), count: u64, lines: &[u8]) -> Vec<u8> {
+    let mut report = Vec::new(rt.alloc());
     for i in 0..count {
-        push_decimal(&mut report, 2 + (i & 255))?;
-        report.extend_from_slice(b" done @")?;
-        push_decimal(&mut report, i)?;
-        report.extend_from_slice(b" status 0x00000000\n")?;
+        push_decimal(&mut report, 2 + (i & 255)).expect(rt, "memory");
+        push(rt, &mut report, b" done @");
+        push_decimal(&mut report, i).expect(rt, "memory");
+        push(rt, &mut report, b" status 0x00000000\n");
     }
-    report.extend_from_slice(lines)?;
-    Ok(report)
+    push(rt, &mut report, lines);
+    report
 }
 
 // A pool has 256 pairs. A 257th is refused and changes nothing, a value in it is replaced, and a place that gets free is taken.
 #[test]
-fn a_pool_is_full(rt: HostRuntime) -> Result<(), Fail> {
-    let alloc = rt.alloc();
+fn a_pool_is_full(rt: HostRuntime) {
     let script = sets_and(
-        alloc,
+        &rt,
         256,
         b"kvp k set 2 kx 2
 kvp k get 2 kx
@@ -173,9 +174,9 @@ kvp k del 2 k511
 kvp k set 2 kx 5
 kvp k enum 2 255
 ",
-    )?;
+    );
     let report = done_and(
-        alloc,
+        &rt,
         256,
         b"258 done @256 status 0x80070070
 259 done @257 status 0x80070103
@@ -189,37 +190,52 @@ kvp k enum 2 255
 267 done @265 status 0x00000000 key kx value 5
 end requests 266 done 266 rescinded 0
 ",
-    )?;
+    );
     check(&rt, answers(&rt, b"run", &script, 0, &report));
-    Ok(())
+    drop(script);
+    drop(report);
 }
 
-// A line of a word that is repeated, and then these bytes.
-fn repeated(text: &mut Vec<u8>, byte: u8, count: usize, more: &[u8]) -> Result<(), AllocError> {
+// A word that is one byte so often, and then these bytes.
+fn repeated(rt: &impl Abort, text: &mut Vec<u8>, byte: u8, count: usize, more: &[u8]) {
     for _i in 0..count {
-        text.push(byte)?;
+        text.push(byte).expect(rt, "memory");
     }
-    text.extend_from_slice(more)?;
-    Ok(())
+    push(rt, text, more);
 }
 
-// The longest key, and the longest value.
-#[test]
-fn the_longest_pair_is_told(rt: HostRuntime) -> Result<(), Fail> {
-    let alloc = rt.alloc();
-    let mut script = Vec::new(alloc);
-    script.extend_from_slice(b"offer kvp k\nkvp k set 0 ")?;
-    repeated(&mut script, b'~', 255, b" ")?;
-    repeated(&mut script, b'!', 1_023, b"\nkvp k enum 0 0\n")?;
-    let mut report = Vec::new(alloc);
-    report.extend_from_slice(b"2 done @0 status 0x00000000\n3 done @1 status 0x00000000 key ")?;
-    repeated(&mut report, b'~', 255, b" value ")?;
+// The longest key is set to the longest value.
+fn longest_pair(rt: &(impl Abort + AllocGlobal)) -> Vec<u8> {
+    let mut script = Vec::new(rt.alloc());
+    push(rt, &mut script, b"offer kvp k\nkvp k set 0 ");
+    repeated(rt, &mut script, b'~', 255, b" ");
+    repeated(rt, &mut script, b'!', 1_023, b"\nkvp k enum 0 0\n");
+    script
+}
+
+fn longest_report(rt: &(impl Abort + AllocGlobal)) -> Vec<u8> {
+    let mut report = Vec::new(rt.alloc());
+    push(
+        rt,
+        &mut report,
+        b"2 done @0 status 0x00000000\n3 done @1 status 0x00000000 key ",
+    );
+    repeated(rt, &mut report, b'~', 255, b" value ");
     repeated(
+        rt,
         &mut report,
         b'!',
         1_023,
         b"\nend requests 2 done 2 rescinded 0\n",
-    )?;
+    );
+    report
+}
+
+#[test]
+fn the_longest_pair_is_told(rt: HostRuntime) {
+    let script = longest_pair(&rt);
+    let report = longest_report(&rt);
     check(&rt, answers(&rt, b"run", &script, 0, &report));
-    Ok(())
+    drop(script);
+    drop(report);
 }

@@ -34,9 +34,9 @@ fn fate_of(stop: Stop, place: usize) -> Fate {
     Fate::Done
 }
 
-const DIGITS: [&[u8]; 10] = [b"0", b"1", b"2", b"3", b"4", b"5", b"6", b"7", b"8", b"9"];
+const DIGITS: &[&[u8]] = &[b"0", b"1", b"2", b"3", b"4", b"5", b"6", b"7", b"8", b"9"];
 
-const WINDOWS: [&[u8]; 3] = [b"1", b"4", b"64"];
+const WINDOWS: &[&[u8]] = &[b"1", b"4", b"64"];
 
 const READS: &[u8] = b"
 read d 0 1
@@ -50,7 +50,7 @@ read d 7 1
 rescind d after ";
 
 // The numbers of these lines, and the serials that they have where they are served.
-const NUMBERS: [(&[u8], &[u8]); 8] = [
+const NUMBERS: &[(&[u8], &[u8])] = &[
     (b"3", b"0"),
     (b"4", b"1"),
     (b"5", b"2"),
@@ -68,7 +68,7 @@ fn push(rt: &impl Abort, text: &mut Vec<u8>, parts: &[&[u8]]) {
 }
 
 // Eight reads of a disk that stops, and a request in the phase behind it.
-fn script(rt: &(impl Abort + AllocGlobal), window: &[u8], stop: Stop) -> Vec<u8> {
+fn script_of(rt: &(impl Abort + AllocGlobal), window: &[u8], stop: Stop) -> Vec<u8> {
     let mut text = Vec::new(rt.alloc());
     push(rt, &mut text, &[b"offer disk d 64 0\nwindow d "]);
     text.extend_from_slice(window).expect(rt, "memory");
@@ -120,10 +120,13 @@ fn same_reports(rt: &(impl Threads + Wait + Sync + Abort + AllocGlobal), stop: S
     let wanted = report(rt, stop);
     let mut same = 0u32;
     for window in WINDOWS {
-        if answers(rt, b"run", &script(rt, window, stop), 0, &wanted) {
+        let script = script_of(rt, window, stop);
+        if answers(rt, b"run", &script, 0, &wanted) {
             same = same.wrapping_add(1);
         }
+        drop(script);
     }
+    drop(wanted);
     same
 }
 

@@ -1,5 +1,5 @@
 //! Sockets: what comes back, what the channel carried, and words that name none.
-use crate::call::{call_words, sink_of, source_of};
+use crate::call::{answers_one, outcome_on, sink_of};
 use crate::check::check;
 use io_edge::NoGate;
 use std::alloc::AllocGlobal;
@@ -15,7 +15,7 @@ fn check_echo(
 ) {
     let mut sink = sink_of(rt);
     let words: [&[u8]; 2] = [b"sock", b"5"];
-    let outcome = call_words(rt, &words, &mut source_of(rt, input), &mut sink, &NoGate);
+    let outcome = outcome_on(rt, &words, input, &mut sink, &NoGate);
     check(rt, outcome.status == 0 && sink.bytes() == input);
     check(
         rt,
@@ -27,6 +27,8 @@ fn check_echo(
         let back = run.settled.host_sent().len();
         check(rt, (sent, back) == (packets, packets));
     }
+    drop(outcome);
+    drop(sink);
 }
 
 // Packets of 2,048, 2,048, 904 and 0 bytes.
@@ -40,7 +42,7 @@ fn nothing_comes_back(rt: HostRuntime) {
     check_echo(&rt, b"", 1);
 }
 
-const NO_PORT: [[&[u8]; 2]; 3] = [
+const NO_PORT: &[[&[u8]; 2]] = &[
     [b"sock", b"007"],
     [b"sock", b"4294967296"],
     [b"sock", b"-5"],
@@ -48,9 +50,7 @@ const NO_PORT: [[&[u8]; 2]; 3] = [
 
 #[test]
 fn words_of_no_socket(rt: HostRuntime) {
-    for words in &NO_PORT {
-        let mut sink = sink_of(&rt);
-        let outcome = call_words(&rt, words, &mut source_of(&rt, b"in"), &mut sink, &NoGate);
-        check(&rt, outcome.status == 1 && sink.bytes().is_empty());
+    for words in NO_PORT {
+        check(&rt, answers_one(&rt, words, b"in", &NoGate, 1, &[b""]));
     }
 }

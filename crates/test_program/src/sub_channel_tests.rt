@@ -1,5 +1,5 @@
 //! Disks with sub-channels: their channels in each phase, and requests that go to the channels in turn.
-use crate::call::{call, outcome_of, sink_of, source_of};
+use crate::call::{answers_one, outcome_of};
 use crate::check::check;
 use io_edge::NoGate;
 use std::alloc::AllocGlobal;
@@ -15,7 +15,7 @@ read d0 0 1
 ";
 
 // Two channels serve the reads, so that either is first.
-const TWO_CHANNELS_REPORTS: [&[u8]; 2] = [
+const TWO_CHANNELS_REPORTS: &[&[u8]] = &[
     b"2 done @0 good
 4 done @1 good 512x07
 5 done @2 good 512x07
@@ -39,7 +39,7 @@ phase
 flush d0
 ";
 
-const RESCINDED_REPORTS: [&[u8]; 2] = [
+const RESCINDED_REPORTS: &[&[u8]] = &[
     b"2 done @0 good 512x00
 3 done @1 good 512x00
 4 rescinded unserved
@@ -62,15 +62,13 @@ fn reports(
     script: &[u8],
     wanted: &[&[u8]],
 ) -> bool {
-    let mut sink = sink_of(rt);
-    let outcome = call(rt, b"run", &mut source_of(rt, script), &mut sink, &NoGate);
-    outcome.status == 0 && wanted.iter().any(|report| sink.bytes() == *report)
+    answers_one(rt, &[b"run"], script, &NoGate, 0, wanted)
 }
 
 #[test]
 fn requests_of_two_channels(rt: HostRuntime) {
-    check(&rt, reports(&rt, TWO_CHANNELS, &TWO_CHANNELS_REPORTS));
-    check(&rt, reports(&rt, RESCINDED, &RESCINDED_REPORTS));
+    check(&rt, reports(&rt, TWO_CHANNELS, TWO_CHANNELS_REPORTS));
+    check(&rt, reports(&rt, RESCINDED, RESCINDED_REPORTS));
 }
 
 /// Two disks with sub-channels, and a heartbeat between them.
@@ -88,7 +86,7 @@ close c
 ";
 
 // Of each channel its phase, its relid and its device: in each phase sub-channels take the next relids.
-const CHANNELS: [(u32, u32, u32); 14] = [
+const CHANNELS: &[(u32, u32, u32)] = &[
     (0, 1, 0),
     (0, 2, 1),
     (0, 3, 2),
@@ -110,7 +108,8 @@ fn sub_channels_of_phases(rt: HostRuntime) {
     let outcome = outcome_of(&rt, THREE_DEVICES);
     check(&rt, outcome.settled.len() == CHANNELS.len());
     for (run, wanted) in outcome.settled.iter().zip(CHANNELS) {
-        check(&rt, (run.phase, run.relid, run.device) == wanted);
+        check(&rt, (run.phase, run.relid, run.device) == *wanted);
     }
     check(&rt, outcome.histories.len() == 3);
+    drop(outcome);
 }

@@ -1,5 +1,5 @@
 //! Workers on threads of their own: two guests that run at once, and one report whatever the threads' order.
-use crate::call::{answers, call, sink_of, source_of};
+use crate::call::{answers, answers_one};
 use crate::check::check;
 use crate::hold::{comes, note};
 use io_edge::{Gate, Side};
@@ -60,16 +60,10 @@ fn two_guests_run_at_once(rt: HostRuntime) {
         second: AtomicU64::new(0),
         failed: AtomicU64::new(0),
     };
-    let mut sink = sink_of(&rt);
-    let outcome = call(
+    check(
         &rt,
-        b"run",
-        &mut source_of(&rt, TWO_DISKS),
-        &mut sink,
-        &gate,
+        answers_one(&rt, &[b"run"], TWO_DISKS, &gate, 0, &[TWO_DISKS_REPORT]),
     );
-    check(&rt, outcome.status == 0);
-    check(&rt, sink.bytes() == TWO_DISKS_REPORT);
     check(&rt, gate.first.load(Ordering::SeqCst) == 1);
     check(&rt, gate.second.load(Ordering::SeqCst) == 1);
     check(&rt, gate.failed.load(Ordering::SeqCst) == 0);

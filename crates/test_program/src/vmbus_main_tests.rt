@@ -1,43 +1,16 @@
 //! The top call on worked inputs.
-use crate::call::{answers, call, outcome_of, refusal, sink_of};
+use crate::call::{
+    answers, call_words, check_answers, check_refusals, end_of, outcome_of, sink_of,
+};
 use crate::check::check;
 use crate::fault_tests::failing_source;
 use bus_script::{ScriptFault, Why6};
 use io_edge::NoGate;
 use std::alloc::AllocGlobal;
-use std::process::Abort;
-use std::sync::Wait;
-use std::thread::Threads;
 
 const ONE_BEAT: &[u8] = b"offer hb hb\nbeat hb 41\n";
 
 const ONE_BEAT_REPORT: &[u8] = b"2 done @0 seq 42\nend requests 1 done 1 rescinded 0\n";
-
-// Each input of a table is answered by its output.
-fn check_answers(
-    rt: &(impl Threads + Wait + Sync + Abort + AllocGlobal),
-    word: &[u8],
-    table: &[(&[u8], &[u8])],
-) {
-    for (input, output) in table {
-        check(rt, answers(rt, word, input, 0, output));
-    }
-}
-
-// Each input of a table is refused at its line for its reason.
-fn check_refusals(
-    rt: &(impl Threads + Wait + Sync + Abort + AllocGlobal),
-    word: &[u8],
-    table: &[(&[u8], u32, Why6)],
-) {
-    for (input, line, why) in table {
-        let fault = ScriptFault {
-            line: *line,
-            why: *why,
-        };
-        check(rt, refusal(rt, word, input) == Some(fault));
-    }
-}
 
 const SCRIPTS: &[(&[u8], &[u8])] = &[
     (ONE_BEAT, ONE_BEAT_REPORT),
@@ -105,7 +78,7 @@ fn devices_over_phases(rt: HostRuntime) {
 }
 
 // Of each channel its phase, its relid, its device, and how many packets the host sent.
-const CHANNELS: [(u32, u32, u32, usize); 4] = [
+const CHANNELS: &[(u32, u32, u32, usize)] = &[
     (0, 1, 0, 3),
     (0, 2, 1, 2),
     (2, 1, 0, 2),
@@ -118,9 +91,10 @@ fn channels_of_phases(rt: HostRuntime) {
     check(&rt, outcome.settled.len() == CHANNELS.len());
     for (run, wanted) in outcome.settled.iter().zip(CHANNELS) {
         let sent = run.settled.host_sent().len();
-        check(&rt, (run.phase, run.relid, run.device, sent) == wanted);
+        check(&rt, (run.phase, run.relid, run.device, sent) == *wanted);
     }
     check(&rt, outcome.histories.len() == 3);
+    drop(outcome);
 }
 
 const MESSAGES: &[(&[u8], &[u8])] = &[
@@ -213,19 +187,24 @@ fn a_run_shows_what_went_across(rt: HostRuntime) {
     check(&rt, run.settled.guest_got().len() == 2);
     check(&rt, run.settled.guest_sent().len() == 2);
     check(&rt, run.settled.host_got().len() == 2);
+    drop(outcome);
 }
 
 #[test]
 fn a_byte_too_many(rt: HostRuntime) {
     let bytes = vec![in rt.alloc(); 35u8; 1_048_577].expect(&rt, "memory");
     let mut source = failing_source(&rt, &bytes, 1_048_578);
-    let outcome = call(&rt, b"run", &mut source, &mut sink_of(&rt), &NoGate);
-    check(&rt, outcome.status == 2);
-    let fault = ScriptFault {
+    let mut sink = sink_of(&rt);
+    let (status, fault) = end_of(call_words(&rt, &[b"run"], &mut source, &mut sink, &NoGate));
+    drop(source);
+    drop(sink);
+    drop(bytes);
+    check(&rt, status == 2);
+    let wanted = ScriptFault {
         line: 0,
         why: Why6::Limit,
     };
-    check(&rt, outcome.fault == Some(fault));
+    check(&rt, fault == Some(wanted));
 }
 
 const DISKS: &[(&[u8], &[u8])] = &[

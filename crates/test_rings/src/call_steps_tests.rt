@@ -7,7 +7,6 @@ ghost use Rattle.ring_machine.specs.PageCalls.{IsQuiet};
 ghost use Rattle.ring_machine.specs.declared.machine.Stage.TheVariants.{Idle};
 
 use crate::check::check;
-use crate::ends::leave;
 use ring_core::{Armed, Change, End, EndCore, Last, Place, Ring, Side, Signalled, Stage, ToldMem};
 use ring_machine::{Due, PageCall};
 use std::alloc::AllocGlobal;
@@ -79,7 +78,7 @@ fn an_end_that_finds_no_room_sleeps_till_its_signal(rt: HostRuntime) {
     polls(&rt, &mut e, false, 6, 4000, 0);
     polls(&rt, &mut e, true, 9, 0, 1);
     check(&rt, e.is_ready());
-    leave(e);
+    drop(e);
 }
 
 // One that wants no room stores no pending, neither where it arms nor where it wakes.
@@ -89,7 +88,7 @@ fn an_end_that_wants_no_room_leaves_pending_out(rt: HostRuntime) {
     arms(&rt, &mut e, None, Armed::Asleep, 3, 0, 0);
     polls(&rt, &mut e, true, 5, 0, 1);
     check(&rt, e.is_ready());
-    leave(e);
+    drop(e);
 }
 
 // A look finds what its peer changes before this step, and what was armed is undone: the end is awake after so many steps. Whether it saw the mark.
@@ -106,7 +105,7 @@ fn is_kept_awake(
     arms(rt, &mut e, Some(4000), Armed::Work, steps, 0, 1);
     check(rt, e.is_ready());
     let seen = e.saw_mark();
-    leave(e);
+    drop(e);
     seen
 }
 
@@ -142,7 +141,7 @@ fn an_end_sees_a_mark_and_marks_itself(rt: HostRuntime) {
         &rt,
         seat.look(Place::Mark(Side::Guest)) == 1 && seat.look(Place::Signal(Side::Host)) == 1,
     );
-    leave(e);
+    drop(e);
 }
 
 // Feeds a machine these answers to its next steps, as long as its command is under way.

@@ -1,5 +1,5 @@
 //! Ends for the tests here.
-use ring_core::{End, Room, Seatlike, Side, SoloMem};
+use ring_core::{End, Room, Side, SoloMem};
 use std::alloc::AllocGlobal;
 use std::process::Abort;
 
@@ -10,6 +10,3 @@ pub fn solo_end(rt: &(impl Abort + AllocGlobal), side: Side, room: Room) -> End<
     e.reserve(room, room).expect(rt, "memory");
     e
 }
-
-/// An end goes, with its lists and its memory: its parts are let go in one place, not at the end of each test.
-pub fn leave<S: Seatlike + Drop>(_end: End<S>) {}

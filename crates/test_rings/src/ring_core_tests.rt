@@ -4,7 +4,6 @@ ghost use Rattle.ring_machine.specs.Steps.{machine_new};
 ghost use Rattle.ring_machine.specs.States.{resting};
 
 use crate::check::check;
-use crate::ends::leave;
 use ring_core::{Armed, End, Side, SoloMem};
 use std::alloc::AllocGlobal;
 use std::process::Abort;
@@ -23,7 +22,7 @@ fn an_end_with_room_stays_awake(rt: HostRuntime) {
     let mut e = end(&rt, Side::Host);
     check(&rt, e.arm(Some(24)) == Armed::Work);
     check(&rt, e.is_ready());
-    leave(e);
+    drop(e);
 }
 
 // The other end marks itself in the memory of this one.
@@ -40,7 +39,7 @@ fn marks_in(rt: &impl Abort, e: &mut End<SoloMem>, mut other: End<SoloMem>)
         e.cells() == other.cells() && e.pages() == other.pages() && other.is_marked(),
     );
     e.swap_memory(&mut other);
-    leave(other);
+    drop(other);
 }
 
 // Its signal is down before its peer marks itself, and up after it.

@@ -8,7 +8,7 @@ ghost use Rattle.ring_machine.specs.Endings.{refused};
 ghost use Rattle.ring_pair_laws.specs.Calls.{SendSays, CommitSays, TakeSays};
 
 use crate::check::check;
-use crate::ends::{leave, solo_end};
+use crate::ends::solo_end;
 use crate::packet::packet;
 use ring_core::{
     End, Room, SendRefusal, Side, Signalled, SoloMem, TakeRefusal, may_send, may_take,
@@ -145,6 +145,6 @@ fn a_full_ring_refuses_until_a_commit(rt: HostRuntime) {
     let to_guest = hands(&mut h, &mut g);
     let passed = passes(&mut g, &mut h, short.as_slice(), 16);
     check(&rt, full && to_host && given_back && to_guest && passed);
-    leave(g);
-    leave(h);
+    drop(g);
+    drop(h);
 }

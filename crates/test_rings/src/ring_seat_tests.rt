@@ -3,7 +3,6 @@ ghost use Rattle.ring_machine.specs.declared.machine.Stage.TheVariants.{Idle};
 ghost use Rattle.ring_seat.specs.Settling.{AreOfOneChannel, IsSameEnd};
 
 use crate::check::check;
-use crate::ends::leave;
 use crate::packet::packet;
 use ring_core::{Armed, End, Room, SendRefusal, Signalled, TakeRefusal, may_send, may_take};
 use ring_seat::{ChannelMem, GuestEnd, HostEnd, Settled, TableSeat, finish};
@@ -198,6 +197,6 @@ fn a_raise_wakes_a_parked_thread(rt: HostRuntime) {
         { sleep_parked(run, host) },
     );
     check(&rt, guest.is_marked() && host.is_ready());
-    leave(guest);
-    leave(host);
+    drop(guest);
+    drop(host);
 }

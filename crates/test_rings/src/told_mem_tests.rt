@@ -3,7 +3,7 @@ ghost use Rattle.std.specs.Prelude.{◌≡◌};
 ghost use Rattle.ring_machine.specs.Places.{IsPlaceOf};
 
 use crate::check::check;
-use crate::ends::{leave, solo_end};
+use crate::ends::solo_end;
 use crate::packet::packet;
 use ring_core::{
     Bad, Change, End, Place, Ring, Room, Seatlike, SendRefusal, Side, Signalled, SoloMem,
@@ -145,7 +145,7 @@ fn a_ring_is_never_quite_full(rt: HostRuntime) {
     sent(&rt, &mut e, long.as_slice(), Signalled::Quiet, 514);
     let full = SendRefusal::Full { free: 8, need: 24 };
     unsent(&rt, &mut e, short.as_slice(), full, 515);
-    leave(e);
+    drop(e);
 }
 
 // The trailer of the second packet stands where it goes on at the ring's first cell.
@@ -158,7 +158,7 @@ fn a_packet_goes_on_at_the_first_cell(rt: HostRuntime) {
     sent(&rt, &mut e, long.as_slice(), Signalled::Quiet, 514);
     sent(&rt, &mut e, short.as_slice(), Signalled::Quiet, 521);
     check(&rt, cell_16(&e) == 0x0000_0ff8_0000_0000);
-    leave(e);
+    drop(e);
 }
 
 fn cell_16(e: &End<ToldMem>) -> u64 {
@@ -178,7 +178,7 @@ fn stops(rt: &(impl Abort + AllocGlobal), write: u64, first: u64, bad: Bad, coun
     untaken(rt, &mut e, TakeRefusal::Malformed(bad), count);
     untaken(rt, &mut e, TakeRefusal::Stopped { why }, count);
     check(rt, !e.is_ready());
-    leave(e);
+    drop(e);
 }
 
 #[test]
@@ -206,7 +206,7 @@ fn the_longest_packet_is_taken(rt: HostRuntime) {
     told.put(Place::Cell(Ring::ToGuest, 0), LONGER);
     let mut e = guest(&rt, told);
     taken(&rt, &mut e, &LONGEST, 12);
-    leave(e);
+    drop(e);
 }
 
 // A read index that is a multiple of 8, but of no cell.
@@ -225,7 +225,7 @@ fn a_wrong_read_index_stops_a_sender(rt: HostRuntime) {
     );
     let why = Why::BadPeer { index: 4096 };
     unsent(&rt, &mut e, p.as_slice(), SendRefusal::Stopped { why }, 1);
-    leave(e);
+    drop(e);
 }
 
 // A memory with a packet of 3 words, whose peer shortens it once its first word is loaded.
@@ -245,7 +245,7 @@ fn a_length_is_loaded_once(rt: HostRuntime) {
     committed(&rt, &mut e, Signalled::Quiet, 7);
     untaken(&rt, &mut e, TakeRefusal::Empty { at: 32 }, 8);
     check(&rt, e.is_ready());
-    leave(e);
+    drop(e);
 }
 
 // Exchanges the memories of two ends whose rings have one size.
@@ -277,7 +277,7 @@ fn room_is_made_and_used(rt: HostRuntime) {
     check(&rt, has_room(e.spare_got(), 2, 1024));
     check(&rt, sends(&mut e, &[FIRST, 7, 9], Signalled::Quiet));
     check(&rt, is_less(before, e.spare_sent(), 1, 3));
-    leave(e);
+    drop(e);
 }
 
 // Whether the guest sends two packets.
@@ -321,7 +321,7 @@ fn packets_go_across_both_ways(rt: HostRuntime) {
     let mut h = solo_end(&rt, Side::Host, room);
     crosses(&rt, &mut g, &mut h);
     check(&rt, has_both(g));
-    leave(h);
+    drop(h);
 }
 
 // Whether the signal of the host is up.
@@ -339,7 +339,7 @@ fn a_send_into_an_empty_ring_signals(rt: HostRuntime) {
     sent(&rt, &mut e, &[FIRST, 7, 9], Signalled::Raised, 9);
     check(&rt, is_signalled(&e));
     sent(&rt, &mut e, &[FIRST, 7, 9], Signalled::Quiet, 17);
-    leave(e);
+    drop(e);
 }
 
 // In a memory with 4,000 bytes for the guest, the first of which are a packet of 11 words, and a producer that waits for this room, the commit after a
@@ -352,7 +352,7 @@ fn commits_so(rt: &(impl Abort + AllocGlobal), pending: u64, want: Signalled, co
     let mut e = guest(rt, told);
     taken(rt, &mut e, &LONGEST, 12);
     committed(rt, &mut e, want, count);
-    leave(e);
+    drop(e);
 }
 
 // The commit gives 96 bytes back to a ring with 96 bytes of room.

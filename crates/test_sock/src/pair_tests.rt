@@ -60,6 +60,28 @@ fn sent_size(e: &SockEnd<SoloMem>, i: usize, want: u32) -> bool {
     }
 }
 
+// Writes 5,000 bytes in three packets, and ends the direction by a fourth.
+fn writes_all(rt: &impl Abort, g: &mut SockEnd<SoloMem>, parts: [&[u8]; 3]) {
+    let first = writes(g, parts[0]);
+    let second = writes(g, parts[1]);
+    let third = writes(g, parts[2]);
+    check(rt, first && second && third && shuts(g));
+    check(rt, sent_size(g, 0, 2048) && sent_size(g, 1, 2048));
+    check(rt, sent_size(g, 2, 904) && sent_size(g, 3, 0));
+    check(rt, g.end().sent().len() == 4);
+    check(rt, !g.may_write(1) && !g.may_shut());
+}
+
+// Reads them in three packets, and then the end.
+fn reads_all(rt: &impl Abort, h: &mut SockEnd<SoloMem>, parts: [&[u8]; 3]) {
+    let first = reads(h, parts[0]);
+    let second = reads(h, parts[1]);
+    let third = reads(h, parts[2]);
+    check(rt, first && second && third);
+    check(rt, answers(h, Ok(Got::End)));
+    check(rt, answers(h, Err(SockFault::Ended)));
+}
+
 #[test]
 fn five_thousand_bytes_go_in_four_packets(rt: HostRuntime) {
     let mut g = sock(&rt, Side::Guest);
@@ -67,33 +89,37 @@ fn five_thousand_bytes_go_in_four_packets(rt: HostRuntime) {
     let bytes = Vec::from_elem(rt.alloc(), 0x61, 5000).expect(&rt, "memory");
     let input = bytes.as_slice();
     check(&rt, input.len() == 5000);
-    let first = writes(&mut g, &input[..2048]);
-    let second = writes(&mut g, &input[2048..4096]);
-    let third = writes(&mut g, &input[4096..]);
-    check(&rt, first && second && third && shuts(&mut g));
-    check(&rt, sent_size(&g, 0, 2048) && sent_size(&g, 1, 2048));
-    check(&rt, sent_size(&g, 2, 904) && sent_size(&g, 3, 0));
-    check(&rt, g.end().sent().len() == 4);
-    check(&rt, !g.may_write(1) && !g.may_shut());
+    let parts = [&input[..2048], &input[2048..4096], &input[4096..]];
+    writes_all(&rt, &mut g, parts);
     check(&rt, hands(&mut g, &mut h));
-    let first = reads(&mut h, &input[..2048]);
-    let second = reads(&mut h, &input[2048..4096]);
-    let third = reads(&mut h, &input[4096..]);
-    check(&rt, first && second && third);
-    check(&rt, answers(&mut h, Ok(Got::End)));
-    check(&rt, answers(&mut h, Err(SockFault::Ended)));
+    reads_all(&rt, &mut h, parts);
+    drop(g);
+    drop(h);
+}
+
+// Each end ends its direction, and reads the other one's end.
+fn ends_both(rt: &impl Abort, g: &mut SockEnd<SoloMem>, h: &mut SockEnd<SoloMem>) {
+    check(rt, shuts(g) && hands(g, h));
+    check(rt, answers(h, Ok(Got::End)) && shuts(h));
+    check(rt, hands(h, g) && answers(g, Ok(Got::End)));
+    check(rt, sent_size(g, 0, 0) && sent_size(h, 0, 0));
+    check(rt, g.end().sent().len() == 1 && h.end().sent().len() == 1);
+}
+
+// Whether the first packet that an end got is the end of a direction.
+fn got_an_end(g: SockEnd<SoloMem>) -> bool {
+    let end = g.into_end();
+    let packet: &[u64] = &[0x3_0002_0006, 0, 1];
+    let came = end.got().get(0) == Some(packet);
+    drop(end);
+    came
 }
 
 #[test]
 fn empty_input_is_one_packet_each_way(rt: HostRuntime) {
     let mut g = sock(&rt, Side::Guest);
     let mut h = sock(&rt, Side::Host);
-    check(&rt, shuts(&mut g) && hands(&mut g, &mut h));
-    check(&rt, answers(&mut h, Ok(Got::End)) && shuts(&mut h));
-    check(&rt, hands(&mut h, &mut g) && answers(&mut g, Ok(Got::End)));
-    check(&rt, sent_size(&g, 0, 0) && sent_size(&h, 0, 0));
-    check(&rt, g.end().sent().len() == 1 && h.end().sent().len() == 1);
-    let end = g.into_end();
-    let packet: &[u64] = &[0x3_0002_0006, 0, 1];
-    check(&rt, end.got().get(0) == Some(packet));
+    ends_both(&rt, &mut g, &mut h);
+    drop(h);
+    check(&rt, got_an_end(g));
 }

@@ -57,6 +57,7 @@ fn refuses(rt: &(impl Abort + AllocGlobal), behind: &[u64], want: SockFault) {
     check(rt, answers(&mut e, Err(want), steps));
     check(rt, answers(&mut e, Err(want), steps));
     check(rt, e.end().got().len() == 1);
+    drop(e);
 }
 
 // Zeros behind an id of 0 and this header.
@@ -125,6 +126,7 @@ fn padding_is_no_data(rt: HostRuntime) {
     let mut out = [7; 2048];
     check(&rt, e.may_read() && e.read(&mut out) == Ok(Got::Bytes(3)));
     check(&rt, out.starts_with(&[1, 2, 3, 7, 7]));
+    drop(e);
 }
 
 #[test]
@@ -145,6 +147,7 @@ fn nothing_is_taken_behind_the_end(rt: HostRuntime) {
     check(&rt, answers(&mut e, Err(SockFault::Ended), 7));
     check(&rt, answers(&mut e, Err(SockFault::Ended), 7));
     check(&rt, e.end().got().len() == 1);
+    drop(e);
 }
 
 // A type, flags and an id of other kinds of packets, and an offset of three words.
@@ -164,6 +167,7 @@ fn the_descriptor_is_not_looked_at(rt: HostRuntime) {
     let mut out = [0; 2048];
     check(&rt, e.may_read() && e.read(&mut out) == Ok(Got::Bytes(8)));
     check(&rt, out.starts_with(&[1, 2, 3, 4, 5, 6, 7, 8, 0]));
+    drop(e);
 }
 
 #[test]
@@ -171,4 +175,5 @@ fn a_take_is_refused_as_ever(rt: HostRuntime) {
     let mut e = sock(&rt, &[]);
     let empty = Err(SockFault::Take(TakeRefusal::Empty { at: 0 }));
     check(&rt, answers(&mut e, empty, 1) && answers(&mut e, empty, 2));
+    drop(e);
 }

@@ -23,9 +23,6 @@ fn recorded(rt: &(impl Abort + AllocGlobal), size: usize) -> End<Recorder<SoloMe
     e
 }
 
-// An end goes, with its recorder: its parts are let go in one place, not at the end of each test.
-fn leave(_end: End<Recorder<SoloMem>>) {}
-
 // Sends an in-band packet of n words.
 fn sends(rt: &(impl Abort + AllocGlobal), e: &mut End<Recorder<SoloMem>>, n: usize) {
     let mut packet = Vec::from_elem(rt.alloc(), 0u64, n).expect(rt, "memory");
@@ -55,7 +52,7 @@ fn recorded_send_is_a_run(rt: HostRuntime) {
     text.extend_from_slice(b"\n").expect(&rt, "memory");
     text.extend_from_slice(e.seat().text())
         .expect(&rt, "memory");
-    leave(e);
+    drop(e);
     match verdict_on(rt.alloc(), &text) {
         Ok(verdict) => check(
             &rt,
@@ -82,11 +79,11 @@ fn full_recorder_keeps_whole_lines(rt: HostRuntime) {
         e.seat().text()
             == b"step guest load tohost.read 0\nstep guest store tohost.cell.0 0x0000000200020006\nstep guest store tohost.cell.8 0\n".as_slice(),
     );
-    leave(e);
+    drop(e);
     let mut e = recorded(&rt, 112);
     sends(&rt, &mut e, 2);
     check(&rt, e.seat().full());
-    leave(e);
+    drop(e);
 }
 
 fn line_is(rt: &impl Abort, side: Side, op: Op, v: u64, wanted: &[u8]) {

@@ -200,9 +200,6 @@ fn last_told(end: &GuestEnd, k: usize) -> Option<u64> {
     told_at(got, got.len().wrapping_sub(2), k)
 }
 
-// Both ends go: their parts are let go here, not behind all that was done with them.
-fn leave(_guest: GuestEnd, _server: Server<Swap, SwapSeat, TableSeat>) {}
-
 // Sixty-four messages are open, one under each id; then one is acknowledged, and another. The channel has all its data pages.
 fn lends_again(rt: &(impl Wait + Abort + AllocGlobal), pages: u32)
     requires { pages ≡ 128 }
@@ -237,7 +234,8 @@ fn lends_again(rt: &(impl Wait + Abort + AllocGlobal), pages: u32)
     check(rt, rests(rt, &mut server));
     check(rt, takes_both(&mut guest));
     check(rt, last_told(&guest, 65) == Some(7));
-    leave(guest, server);
+    drop(guest);
+    drop(server);
 }
 
 #[test]
