@@ -31,7 +31,8 @@ use Rattle.script_lines.specs.WellFormed.{IsDevice}
 use Rattle.script_lines.proofs.Plain.{PlainAsk}
 use Rattle.bus_script.specs.Report.{disk_runs, net_runs}
 use Rattle.device_kinds.specs.Served.{message_asked}
-use Rattle.device_kinds.specs.Logs.{Recorded, Logged, ic_calls, disk_calls, net_calls, kvp_calls, log_by, log_of, new_station, IsHistory, EachHistory}
+use Rattle.device_kinds.specs.Kinds.{services, disks, pairs}
+use Rattle.device_kinds.specs.Logs.{Recorded, Logged, calls_of, net_calls, log_by, log_of, new_station, IsHistory, EachHistory}
 use Rattle.device_kinds.specs.declared.history.DeviceHistory.{DeviceHistory}
 use Rattle.device_kinds.specs.declared.history.DeviceHistory.TheVariants.{Beat as BeatHistory, Down as DownHistory, Disk as DiskHistory, Net as NetHistory, Kvp as KvpHistory}
 use Rattle.bus_report_bound.specs.Laws.{data_of, room_of}
@@ -52,11 +53,11 @@ bare_few : {S Q A : Type 0} (m : Logged Q A) → ((q : Q) (a : A) → FewReply (
 bare_few m each [] = tt
 bare_few m each (e ∷ es) = (each e.request e.reply, bare_few m each es)
 
-disk_ones : {S : Type 0} (es : List (Entry S DiskRequest DiskReply)) → PlainLog (log_by disk_calls es) → AllByRecursion (λ e. IsOneByte e.request.out) es
+disk_ones : {S : Type 0} (es : List (Entry S DiskRequest DiskReply)) → PlainLog (log_by (calls_of disks) es) → AllByRecursion (λ e. IsOneByte e.request.out) es
 disk_ones [] plain = tt
 disk_ones (e ∷ es) plain = (plain.0, disk_ones es plain.1)
 
-disk_few : {S : Type 0} (es : List (Entry S DiskRequest DiskReply)) → AllByRecursion (λ e. disk_runs e.reply ≤ 36) es → FewLog (log_by disk_calls es)
+disk_few : {S : Type 0} (es : List (Entry S DiskRequest DiskReply)) → AllByRecursion (λ e. disk_runs e.reply ≤ 36) es → FewLog (log_by (calls_of disks) es)
 disk_few [] few = tt
 disk_few (e ∷ es) few = (omega (arith, few.0), disk_few es few.1)
 
@@ -127,12 +128,12 @@ net_few s (e ∷ es) has log =
     (net_room e.request e.reply.back (subst (λ (r : NetReply). net_runs r.back ≤ 40 + data_of (message_asked e.request)) (sym log.0) (station_few s e.request has)), net_few (station_after s e.request) es (record { mac = has.mac; station = has.station }) log.1)
 
 history_few : (kind : DeviceSpec) (bad : List ℕ) (h : DeviceHistory) → IsDevice kind → IsHistory kind bad h → PlainLog (log_of h) → FewLog (log_of h)
-history_few Beat bad (BeatHistory h) device is plain = bare_few ic_calls (λ q a. omega arith) (entries_of h)
-history_few Down bad (DownHistory h) device is plain = bare_few ic_calls (λ q a. omega arith) (entries_of h)
+history_few Beat bad (BeatHistory h) device is plain = bare_few (calls_of services) (λ q a. omega arith) (entries_of h)
+history_few Down bad (DownHistory h) device is plain = bare_few (calls_of services) (λ q a. omega arith) (entries_of h)
 history_few (Disk blocks subs) bad (DiskHistory h) device is plain =
     disk_few (entries_of h) (entries_few (new_disk blocks bad) (entries_of h) (new_plain blocks bad) (disk_ones (entries_of h) plain) is)
 history_few (Net mac station) bad (NetHistory h) device is plain = net_few (new_station mac station) (entries_of h) (record { mac = device.0; station = device.1 }) is
-history_few Kvp bad (KvpHistory h) device is plain = bare_few kvp_calls (λ q a. omega arith) (entries_of h)
+history_few Kvp bad (KvpHistory h) device is plain = bare_few (calls_of pairs) (λ q a. omega arith) (entries_of h)
 history_few _ bad _ device is plain = absurd is
 
 pub histories_few : (lines : List Line) (device : ℕ) (kinds : List DeviceSpec) (histories : List DeviceHistory) → AllByRecursion IsDevice kinds → EachHistory lines device kinds histories → AllByRecursion PlainLog (map log_of histories)

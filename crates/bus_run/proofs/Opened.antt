@@ -11,7 +11,6 @@ use Rattle.std.proofs.lemmas.Bool.Decides.{nat_tests}
 use Rattle.bus_model.proofs.Lists.{each_append}
 use Rattle.chan_state.specs.declared.stop.Stop.{Stop}
 use Rattle.contact.specs.declared.kind.DeviceKind.{DeviceKind}
-use Rattle.contact.specs.declared.kind.DeviceKind.TheVariants.{Beat as KindBeat, Down as KindDown, Disk as KindDisk, Net as KindNet, Kvp as KindKvp}
 use Rattle.script_lines.specs.Parts.{kind_of}
 use Rattle.script_phases.specs.Openings.{subs_of as subs_beside}
 use Rattle.hist_lock.specs.Seat.{Lock, Seat, seats_from}
@@ -22,12 +21,12 @@ use Rattle.device_any.specs.declared.device_seat.DeviceSeat.{DeviceSeat}
 use Rattle.phase_plan.specs.Told.{stop_told}
 use Rattle.bus_plan.specs.declared.opening.ChannelOrder.{ChannelOrder}
 use Rattle.bus_run.specs.Devices.{IsReady, Suits, box_at, gone}
-use Rattle.device_any.specs.Boxes.{AreSeatsBy, AreSeatsFor, EachWith, Working, beats, disks, downs, kind_in, nets, pairs, seats_in, spec_of, subs_in}
+use Rattle.device_any.specs.Boxes.{AreSeatsBy, AreSeatsFor, EachWith, kind_in, opened, seats_in, spec_of, subs_in}
 use Rattle.device_any.specs.declared.device_box.DeviceBox.{DeviceBox}
-use Rattle.device_any.specs.declared.device_box.DeviceBox.TheVariants.{Beat as BeatBox, Down as DownBox, Disk as DiskBox, Net as NetBox, Kvp as KvpBox}
+use Rattle.device_any.specs.declared.device_box.DeviceBox.TheVariants.{Beat as BeatBox}
 use Rattle.device_any.specs.declared.machine_box.MachineBox.{MachineBox}
 use Rattle.device_any.specs.declared.machine_box.MachineBox.TheVariants.{Whole}
-use Rattle.device_kinds.specs.Logs.{ic_calls, disk_calls, net_calls, kvp_calls, served_by}
+use Rattle.device_any.proofs.SeatLaws.{parts, seating}
 use Rattle.bus_run.specs.Opening.{IsAway, IsStill, quotas_of, orders_of, order_with, order_at, CanOpen, CanOpenAll, AreAway, IsOpenedWith, Given, seats_given, OpensAt, OpenedSoFar, AllOpened}
 use Rattle.bus_run.specs.Settings.{unset}
 use Rattle.bus_run.specs.declared.settings.Settings.{Settings}
@@ -89,23 +88,26 @@ none_of : (kind : Option DeviceKind) (seats : List DeviceSeat) → AreLeft kind 
 none_of kind [] are = refl
 none_of kind (s ∷ seats) are = absurd are
 
-module _ {S Q A : Type 0} (w : Working S Q A) (kind : DeviceKind) (is : (s : Seat S Q A) → kind_at (w.seat s) ≡ kind) (none : (s : Seat S Q A) → s.calls ≡ [] → served_at (w.seat s) ≡ []) (left : (s : Seat S Q A) → left_at (w.seat s) ≡ s.left) where
-  left_from : (lock : Lock S Q A) (n : ℕ) (quotas : List ℕ) → AreLeft (Some kind) quotas (map w.seat (seats_from lock n quotas))
-  left_from lock n [] = tt
-  left_from lock n (q ∷ quotas) =
-      let s : Seat S Q A = record { lock = lock; number = n; left = q; calls = [] } in
-      (ap (λ k. Some k) (sym (is s)), none s refl, left s, left_from lock (n + 1) quotas)
+seat_kind : (box : DeviceBox) (s : Seat (opened box).S (opened box).Q (opened box).A) → kind_at ((opened box).w.seat s) ≡ kind_of (spec_of box)
+seat_kind (BeatBox own) s = refl
+seat_kind _ s = refl
 
-  left_by : (own : MachineBox S Q A) (quotas : List ℕ) (seats : List DeviceSeat) → AreSeatsBy w own quotas seats → AreLeft (Some kind) quotas seats
-  left_by (Whole state history) quotas seats new = subst (AreLeft (Some kind) quotas) (sym (new.1 ∙ ap (map w.seat) new.2.seats_are)) (left_from new.2.lock 0 quotas)
-  left_by _ quotas seats new = absurd new.2
+seat_left : (box : DeviceBox) (s : Seat (opened box).S (opened box).Q (opened box).A) → left_at ((opened box).w.seat s) ≡ s.left
+seat_left (BeatBox own) s = refl
+seat_left _ s = refl
+
+left_from : (box : DeviceBox) (lock : Lock (opened box).S (opened box).Q (opened box).A) (n : ℕ) (quotas : List ℕ) → AreLeft (Some (kind_of (spec_of box))) quotas (map (opened box).w.seat (seats_from lock n quotas))
+left_from box lock n [] = tt
+left_from box lock n (q ∷ quotas) =
+    let s : Seat (opened box).S (opened box).Q (opened box).A = record { lock = lock; number = n; left = q; calls = [] } in
+    (ap (λ k. Some k) (sym (seat_kind box s)), (seating box).served s, seat_left box s, left_from box lock (n + 1) quotas)
+
+left_by : (box : DeviceBox) (own : MachineBox (opened box).S (opened box).Q (opened box).A) (quotas : List ℕ) (seats : List DeviceSeat) → AreSeatsBy (opened box).w own quotas seats → AreLeft (Some (kind_of (spec_of box))) quotas seats
+left_by box (Whole state history) quotas seats new = subst (AreLeft (Some (kind_of (spec_of box))) quotas) (sym (new.1 ∙ ap (map (opened box).w.seat) new.2.seats_are)) (left_from box new.2.lock 0 quotas)
+left_by box _ quotas seats new = absurd new.2
 
 left_new : (box : DeviceBox) (quotas : List ℕ) (seats : List DeviceSeat) → AreSeatsFor box quotas seats → AreLeft (Some (kind_of (spec_of box))) quotas seats
-left_new (BeatBox own) quotas seats new = left_by beats KindBeat (λ s. refl) (λ s none. ap (served_by ic_calls) none) (λ s. refl) own quotas seats new
-left_new (DownBox own) quotas seats new = left_by downs KindDown (λ s. refl) (λ s none. ap (served_by ic_calls) none) (λ s. refl) own quotas seats new
-left_new (DiskBox subs own) quotas seats new = left_by disks KindDisk (λ s. refl) (λ s none. ap (served_by disk_calls) none) (λ s. refl) own quotas seats new
-left_new (NetBox own) quotas seats new = left_by nets KindNet (λ s. refl) (λ s none. ap (served_by net_calls) none) (λ s. refl) own quotas seats new
-left_new (KvpBox own) quotas seats new = left_by pairs KindKvp (λ s. refl) (λ s none. ap (served_by kvp_calls) none) (λ s. refl) own quotas seats new
+left_new box quotas seats new = left_by box (opened box).own quotas seats (subst (λ y. y.SeatsFor quotas seats) (parts box) new)
 
 away_left : (old held : DeviceBox) (quotas : List ℕ) → IsAway old quotas held → AreLeft (kind_in held) quotas (seats_in held)
 away_left old held [] away = subst (AreLeft (kind_in held) []) (sym away.2) tt

@@ -41,14 +41,17 @@ port_with id = from_le_bytes w32 (take 4 id)
 abbrev pub service_with : List ℕ → Option Kind
 service_with id = if bytes_eq id (service_id (port_with id)) then Some (Sock (port_with id)) else None
 
--- the kind with a class id, if one has it: a device's, or that of the service at a port
+-- the kinds of devices, each of which has a class id of its own
+abbrev pub device_kinds : List Kind
+device_kinds = Beat ∷ Down ∷ Disk ∷ Net ∷ Kvp ∷ []
+
+-- the kind with a class id, if one has it: the one of these, or that of the service at a port
+abbrev pub kind_among : List ℕ → List Kind → Option Kind
+kind_among id [] = service_with id
+kind_among id (kind ∷ kinds) = if bytes_eq id (class_id kind) then Some kind else kind_among id kinds
+
 abbrev pub kind_with : List ℕ → Option Kind
-kind_with id =
-    if bytes_eq id (class_id Beat) then Some Beat else
-    if bytes_eq id (class_id Down) then Some Down else
-    if bytes_eq id (class_id Disk) then Some Disk else
-    if bytes_eq id (class_id Net) then Some Net else
-    if bytes_eq id (class_id Kvp) then Some Kvp else service_with id
+kind_with id = kind_among id device_kinds
 
 -- two kinds are the same: they have one class id
 abbrev pub same_kind : Kind → Kind → Bool

@@ -2,7 +2,6 @@
 use Rattle.std.proofs.Common.{◌≡◌, true, Some, refl, ap, sym, ◌∙◌, subst}
 use Rattle.hist_lock.specs.Seat.{Seat, IsSame}
 use Rattle.contact.specs.declared.kind.DeviceKind.{DeviceKind}
-use Rattle.contact.specs.declared.kind.DeviceKind.TheVariants.{Beat as KindBeat, Down as KindDown, Disk as KindDisk, Net as KindNet, Kvp as KindKvp}
 use Rattle.script_lines.specs.declared.line.Ask.{Ask}
 use Rattle.script_lines.specs.declared.line.DeviceSpec.TheVariants.{Disk as IsDisk, Net as IsNet}
 use Rattle.bus_script.specs.declared.outcome.Reply.{Reply}
@@ -11,7 +10,7 @@ use Rattle.net_dev.specs.declared.station.Station.{Station}
 use Rattle.device_kinds.specs.Formats.{fits_on}
 use Rattle.device_kinds.specs.Logs.{served_by}
 use Rattle.device_any.specs.Boxes.{Working, opened, opened_by}
-use Rattle.device_any.specs.Seats.{BeatPlace, DevicePlace, DiskPlace, DownPlace, IsSameSeat, KvpPlace, NetPlace, device_place, kind_at, place_of, served_at}
+use Rattle.device_any.specs.Seats.{IsSameSeat, device_place, kind_at, place_of, served_at}
 use Rattle.device_any.specs.declared.device_box.DeviceBox.{DeviceBox}
 use Rattle.device_any.specs.declared.device_box.DeviceBox.TheVariants.{Beat as BeatBox, Disk as DiskBox, Net as NetBox}
 use Rattle.device_any.specs.declared.device_seat.DeviceSeat.{DeviceSeat}
@@ -21,20 +20,12 @@ use Rattle.device_any.specs.declared.device_seat.DeviceSeat.TheVariants.{Beat}
 same : {S Q A : Type 0} (s t : Seat S Q A) → place_of t ≡ place_of s → IsSame s t
 same s t is = record { lock = ap (λ p. p.lock) is; number = ap (λ p. p.number) is }
 
-kind_placed : DevicePlace → DeviceKind
-kind_placed (BeatPlace p) = KindBeat
-kind_placed (DownPlace p) = KindDown
-kind_placed (DiskPlace p) = KindDisk
-kind_placed (NetPlace p) = KindNet
-kind_placed (KvpPlace p) = KindKvp
-
-placed : (s : DeviceSeat) → kind_placed (device_place s) ≡ kind_at s
-unfolding kind_placed
+placed : (s : DeviceSeat) → kind_at (device_place s) ≡ kind_at s
 placed (Beat s) = refl
 placed _ = refl
 
 pub same_kind : (s t : DeviceSeat) → IsSameSeat s t → kind_at t ≡ kind_at s
-same_kind s t is = sym (placed t) ∙ (ap kind_placed is ∙ placed s)
+same_kind s t is = sym (placed t) ∙ (ap kind_at is ∙ placed s)
 
 -- what a seat replies fits, where its device is of the kind of the protocol
 pub fits_at : {s own : DeviceSeat} {kind : DeviceKind} {q ask : Ask} (r : Reply) → s ≡ own → kind_at s ≡ kind → q ≡ ask → fits_on (kind_at own) ask r ≡ true → fits_on kind q r ≡ true

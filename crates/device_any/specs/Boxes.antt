@@ -3,7 +3,8 @@ use Rattle.std.specs.Prelude.{ℕ, ◌≡◌, List, [], ◌∷◌, map, Bool, tr
 use Rattle.std.specs.Option.{option_map, option_map_or}
 use Rattle.contact.specs.declared.kind.DeviceKind.{DeviceKind}
 use Rattle.device_kinds.specs.Served.{Served}
-use Rattle.device_kinds.specs.Logs.{Recorded, Logged, Grows, ic_calls, disk_calls, net_calls, kvp_calls, log_by}
+use Rattle.device_kinds.specs.Kinds.{services, disks as disk_case, pairs as pair_case}
+use Rattle.device_kinds.specs.Logs.{Recorded, Logged, Grows, calls_of, net_calls, log_by}
 use Rattle.script_lines.specs.Parts.{kind_of}
 use Rattle.script_phases.specs.Openings.{subs_of}
 use Rattle.script_lines.specs.declared.line.DeviceSpec.{DeviceSpec}
@@ -45,19 +46,19 @@ pub record Working (S Q A : Type 0) : Type 0 where
   pub found : DeviceBox → Option (MachineBox S Q A)
 
 abbrev pub beats : Working BeatMachine IcAsk IcAnswer
-beats = record { first = λ s. beat_start; after = λ s q. s; reply_to = λ s q. beat_reply q; calls = ic_calls; seat = BeatSeat; found = elim [ BeatBox own ↦ Some own | _ ↦ None ] }
+beats = record { first = λ s. beat_start; after = λ s q. s; reply_to = λ s q. beat_reply q; calls = calls_of services; seat = BeatSeat; found = elim [ BeatBox own ↦ Some own | _ ↦ None ] }
 
 abbrev pub downs : Working DownMachine IcAsk IcAnswer
-downs = record { first = λ s. down_start; after = λ s q. s; reply_to = λ s q. down_reply q; calls = ic_calls; seat = DownSeat; found = elim [ DownBox own ↦ Some own | _ ↦ None ] }
+downs = record { first = λ s. down_start; after = λ s q. s; reply_to = λ s q. down_reply q; calls = calls_of services; seat = DownSeat; found = elim [ DownBox own ↦ Some own | _ ↦ None ] }
 
 abbrev pub disks : Working Kept DiskRequest DiskReply
-disks = record { first = unwritten; after = kept_after; reply_to = λ s q. disk_reply (stands_for s) q; calls = disk_calls; seat = DiskSeat; found = elim [ DiskBox subs own ↦ Some own | _ ↦ None ] }
+disks = record { first = unwritten; after = kept_after; reply_to = λ s q. disk_reply (stands_for s) q; calls = calls_of disk_case; seat = DiskSeat; found = elim [ DiskBox subs own ↦ Some own | _ ↦ None ] }
 
 abbrev pub nets : Working Station (Result Rndis RndisFault) NetReply
 nets = record { first = unfiltered; after = station_after; reply_to = station_reply; calls = net_calls; seat = NetSeat; found = elim [ NetBox own ↦ Some own | _ ↦ None ] }
 
 abbrev pub pairs : Working (List Pairs) Message KvpReply
-pairs = record { first = λ s. new_pools; after = pools_after; reply_to = pools_reply; calls = kvp_calls; seat = KvpSeat; found = elim [ KvpBox own ↦ Some own | _ ↦ None ] }
+pairs = record { first = λ s. new_pools; after = pools_after; reply_to = pools_reply; calls = calls_of pair_case; seat = KvpSeat; found = elim [ KvpBox own ↦ Some own | _ ↦ None ] }
 
 -- its machine stands here whole: its history is legal, and leaves its state
 abbrev pub IsKeptBy : {S Q A : Type 0} → Working S Q A → MachineBox S Q A → Type 0

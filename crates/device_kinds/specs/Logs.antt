@@ -1,10 +1,9 @@
 -- Histories of all kinds of devices, as lists of one type.
 use Rattle.std.specs.Prelude.{ℕ, ◌≡◌, ◌+◌, ◌==◌, List, [], ◌∷◌, ◌++◌, length, map, Result, if◌then◌else◌}
 use Rattle.script_lines.specs.declared.line.Ask.{Ask}
-use Rattle.script_lines.specs.declared.line.Ask.TheVariants.{Ic as AskIc, Disk as AskDisk, Kvp as AskKvp}
 use Rattle.script_lines.specs.declared.line.Line.{Line}
 use Rattle.bus_script.specs.declared.outcome.Reply.{Reply}
-use Rattle.bus_script.specs.declared.outcome.Reply.TheVariants.{Ic as ReplyIc, Disk as ReplyDisk, Net as ReplyNet, Kvp as ReplyKvp}
+use Rattle.bus_script.specs.declared.outcome.Reply.TheVariants.{Net as ReplyNet}
 use Rattle.script_lines.specs.declared.line.DeviceSpec.{DeviceSpec}
 use Rattle.script_lines.specs.declared.line.DeviceSpec.TheVariants.{Beat, Down, Disk, Net, Kvp}
 use Rattle.script_lines.specs.Parts.{bads_of}
@@ -13,19 +12,16 @@ use Rattle.hist_lock.specs.Seat.{Call}
 use Rattle.hist_lock.specs.Legal.{IsLegal}
 use Rattle.hist_lock.specs.History.{entries_of}
 use Rattle.scsi_disk.specs.DiskModel.{new_disk, disk_reply, disk_after}
-use Rattle.scsi_disk.specs.declared.request.DiskRequest.{DiskRequest}
-use Rattle.scsi_disk.specs.declared.reply.DiskReply.{DiskReply}
-use Rattle.util_ic.specs.declared.ic.IcAsk.{IcAsk}
-use Rattle.util_ic.specs.declared.ic.IcAnswer.{IcAnswer}
 use Rattle.util_ic.specs.Machines.{beat_start, beat_reply, down_start, down_reply}
-use Rattle.kvp_ic.specs.declared.message.Kvp.{Kvp as Message}
-use Rattle.kvp_ic.specs.declared.message.KvpReply.{KvpReply}
 use Rattle.kvp_ic.specs.Machine.{new_pools, pools_reply, pools_after}
 use Rattle.rndis_msg.specs.declared.rndis.Rndis.{Rndis}
 use Rattle.rndis_msg.specs.declared.fault.RndisFault.{RndisFault}
 use Rattle.net_dev.specs.declared.reply.NetReply.{NetReply}
 use Rattle.net_dev.specs.declared.station.Station.{Station}
 use Rattle.net_dev.specs.Station.{station_reply, station_after}
+use Rattle.device_wire.specs.Lifted.{Case}
+use Rattle.device_kinds.specs.declared.device_step.DeviceStep.{DeviceStep}
+use Rattle.device_kinds.specs.Kinds.{services, disks, pairs}
 use Rattle.device_kinds.specs.Served.{Served, message_asked}
 use Rattle.device_kinds.specs.declared.history.DeviceHistory.{DeviceHistory}
 use Rattle.device_kinds.specs.declared.history.DeviceHistory.TheVariants.{Beat as BeatHistory, Down as DownHistory, Disk as DiskHistory, Net as NetHistory, Kvp as KvpHistory}
@@ -41,17 +37,13 @@ pub record Logged (Q A : Type 0) : Type 0 where
   pub asked : Q → Ask
   pub told : A → Reply
 
-abbrev pub ic_calls : Logged IcAsk IcAnswer
-ic_calls = record { asked = AskIc; told = ReplyIc }
+-- as the requests and replies of its kind do
+abbrev pub calls_of : {S Q R : Type 0} → Case S Q R DeviceStep Ask Reply → Logged Q R
+calls_of c = record { asked = c.request; told = c.reply }
 
-abbrev pub disk_calls : Logged DiskRequest DiskReply
-disk_calls = record { asked = AskDisk; told = ReplyDisk }
-
+-- an adapter's machine is called with what is read of a message, which may be a fault
 abbrev pub net_calls : Logged (Result Rndis RndisFault) NetReply
 net_calls = record { asked = message_asked; told = λ r. ReplyNet r.status r.back }
-
-abbrev pub kvp_calls : Logged Message KvpReply
-kvp_calls = record { asked = AskKvp; told = ReplyKvp }
 
 -- entries of one kind's history, and the calls of a seat of its, as those of any device
 abbrev pub log_by : {S Q A : Type 0} → Logged Q A → List (Entry S Q A) → List Recorded
@@ -61,11 +53,11 @@ abbrev pub served_by : {Q A : Type 0} → Logged Q A → List (Call Q A) → Lis
 served_by m calls = map (λ c. record { serial = c.serial; request = m.asked c.request; reply = m.told c.reply }) calls
 
 abbrev pub log_of : DeviceHistory → List Recorded
-log_of (BeatHistory h) = log_by ic_calls (entries_of h)
-log_of (DownHistory h) = log_by ic_calls (entries_of h)
-log_of (DiskHistory h) = log_by disk_calls (entries_of h)
+log_of (BeatHistory h) = log_by (calls_of services) (entries_of h)
+log_of (DownHistory h) = log_by (calls_of services) (entries_of h)
+log_of (DiskHistory h) = log_by (calls_of disks) (entries_of h)
 log_of (NetHistory h) = log_by net_calls (entries_of h)
-log_of (KvpHistory h) = log_by kvp_calls (entries_of h)
+log_of (KvpHistory h) = log_by (calls_of pairs) (entries_of h)
 
 -- what a seat served, where the first entry has this place
 abbrev pub served_from : ℕ → ℕ → List Recorded → List Served

@@ -35,7 +35,7 @@ pub(crate) enum Form {
     After,
     /// The word `held`, or nothing.
     Held,
-    /// What stands in a row behind `kvp`.
+    /// What stands in a row about pairs.
     OfPair(PairWord),
 }
 

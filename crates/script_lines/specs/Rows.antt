@@ -139,7 +139,7 @@ abbrev pub frame_row : List (List ℕ) → Option Said
 frame_row (name ∷ frame ∷ []) = if is_name name && are_bytes frame then Some (Request name (Message (frame_said frame))) else None
 frame_row others = None
 
--- NAME and an operation, behind kvp
+-- NAME and an operation on its pairs
 abbrev pub pair_row : List (List ℕ) → Option Said
 pair_row (name ∷ operation ∷ others) = if is_name name then option_map (λ request. Request name (Pair request)) (operation_row operation others) else None
 pair_row others = None

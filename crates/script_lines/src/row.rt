@@ -433,7 +433,7 @@ fn frame_row(rest: &[u8]) -> Option<Said>
     }
 }
 
-/// `NAME` and an operation, behind `kvp`.
+/// `NAME` and an operation on its pairs.
 fn pair_row(rest: &[u8]) -> Option<Said>
     ensures said { result ≡ pair_row (words rest.now) }
     ensures range { IfSome result InRange }

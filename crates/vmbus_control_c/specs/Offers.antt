@@ -1,5 +1,5 @@
 -- An offer as the numbers that C sees.
-use Rattle.std.specs.Prelude.{◌≡◌, ℕ, ◌<◌, ◌^◌, ◌==◌, Option, Some, None, if◌then◌else◌}
+use Rattle.std.specs.Prelude.{◌≡◌, ℕ, ◌<◌, ◌^◌}
 use Rattle.vmbus_msg.specs.declared.msg.Msg.{Msg}
 use Rattle.vmbus_msg.specs.declared.msg.Msg.TheVariants.{OfferChannel}
 use Rattle.contact.specs.Classes.{class_id}
@@ -29,17 +29,6 @@ numbers_of o = record { relid = o.relid; kind = kind_number o.kind; port = port_
 -- its port and its index fit their fields
 abbrev pub Fits : Offered → Type 0
 Fits o = (port_of o.kind < 2 ^ 32) × (o.sub < 2 ^ 16)
-
--- the kind with a number, at this port where it has one
-abbrev pub kind_of : ℕ → ℕ → Option Kind
-kind_of number port =
-    if number == 1 then Some Beat else
-    if number == 2 then Some Down else
-    if number == 3 then Some Disk else
-    if number == 4 then Some Net else
-    if number == 5 then Some (Sock port) else
-    if number == 6 then Some Kvp else
-    None
 
 -- a message is an offer with the class id of a kind
 abbrev pub HasClass : Msg → Kind → Type 0

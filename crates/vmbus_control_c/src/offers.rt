@@ -5,7 +5,7 @@ ghost use Rattle.vmbus_msg.specs.declared.msg.Msg.{Msg as Message};
 ghost use Rattle.contact.specs.Classes.{IsOffer, Offers, offer};
 ghost use Rattle.contact.specs.declared.kind.Kind.{Kind as ChannelKind};
 ghost use Rattle.contact.specs.declared.channel_offer.Offered.{Offered as Told};
-ghost use Rattle.vmbus_control_c.specs.Offers.{Fits, HasClass, kind_number, kind_of, numbers_of, port_of};
+ghost use Rattle.vmbus_control_c.specs.Offers.{Fits, HasClass, kind_number, numbers_of, port_of};
 
 use contact::{Kind, Offered, offer, read_offer};
 use vmbus_fault::put_front;
@@ -61,9 +61,9 @@ fn numbers(o: Offered) -> VmbusOffer
     }
 }
 
-// The kind with this number and this port, of those that have one.
+// The kind with this number, at this port where it has one.
 fn kind_of(number: u32, port: u32) -> Option<Kind>
-    ensures { result ≡ kind_of number port }
+    ensures { (kind : ChannelKind) → kind_number kind ≡ number → port_of kind ≡ port → result ≡ Some kind }
 {
     match number {
         1 => Some(Kind::Beat),
