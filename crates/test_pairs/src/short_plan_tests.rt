@@ -7,14 +7,16 @@ ghost use Rattle.script_lines.specs.Requests.{CanBeCarried};
 
 use crate::check::check;
 use crate::only_seat::only_seat;
+use bus_script::Ask;
 use contact::DeviceKind;
+use device_wire::BufferLists;
 use io_edge::NoGate;
 use ring_seat::{ChannelMem, GuestEnd, HostEnd};
 use scsi_disk::{Chunk, Disk, DiskRequest};
 use std::alloc::AllocGlobal;
 use std::process::Abort;
 use std::sync::Wait;
-use worker_pair::{GuestPlan, GuestSeat, GuestWorker, HostPlan, HostSeat, HostWorker};
+use worker_pair::{ChannelPlan, GuestSeat, GuestWorker, HostSeat, HostWorker};
 use worker_port::{Ended, Turn};
 
 // More turns than both workers take.
@@ -31,6 +33,18 @@ fn ready() -> DiskRequest
     }
 }
 
+// A channel of a disk, as both workers have it but for the numbers of their requests.
+const PLAN: ChannelPlan = ChannelPlan {
+    relid: 1,
+    kind: DeviceKind::Disk,
+    sub: 0,
+    subs: 0,
+    window: 1,
+    count: 0,
+    lists: BufferLists::NONE,
+    stop: None,
+};
+
 // A guest that asks three times.
 fn guest_of(rt: &(impl Abort + AllocGlobal), end: GuestEnd, window: u32) -> GuestWorker
     requires window { (1 ≤ window) × (window ≤ 64) }
@@ -38,20 +52,14 @@ fn guest_of(rt: &(impl Abort + AllocGlobal), end: GuestEnd, window: u32) -> Gues
     ensures { IsLive result }
 {
     let alloc = rt.alloc();
-    let asks = [ready(), ready(), ready()];
-    let plan = GuestPlan {
-        relid: 1,
-        kind: DeviceKind::Disk,
-        sub: 0,
-        subs: 0,
+    let asks = [Ask::Disk(ready()), Ask::Disk(ready()), Ask::Disk(ready())];
+    let asks = Vec::from_array(alloc, asks).expect(rt, "memory");
+    let plan = ChannelPlan {
         window,
         count: 3,
-        receive_list: 0,
-        send_list: 0,
-        disk: Vec::from_array(alloc, asks).expect(rt, "memory"),
-        net: Vec::new(alloc),
+        ..PLAN
     };
-    GuestWorker::make(alloc, end, GuestSeat::None, plan).expect(rt, "memory")
+    GuestWorker::make(alloc, end, GuestSeat::None, plan, asks).expect(rt, "memory")
 }
 
 // A host that serves two requests.
@@ -63,18 +71,12 @@ fn host_of(rt: &(impl Abort + AllocGlobal), end: HostEnd, window: u32) -> HostWo
     let alloc = rt.alloc();
     let disk = Disk::make(alloc, 64, &[]).expect(rt, "memory");
     let seat = only_seat(alloc, disk, 2).expect(rt, "memory");
-    let plan = HostPlan {
-        relid: 1,
-        kind: DeviceKind::Disk,
-        sub: 0,
-        subs: 0,
+    let plan = ChannelPlan {
         window,
         count: 2,
-        stop: None,
-        asks: Vec::new(alloc),
-        kvp: Vec::new(alloc),
+        ..PLAN
     };
-    HostWorker::make(alloc, end, HostSeat::Disk(seat), plan).expect(rt, "memory")
+    HostWorker::make(alloc, end, HostSeat::Disk(seat), plan, Vec::new(alloc)).expect(rt, "memory")
 }
 
 // Both workers of one channel, which has a data page for each request that can be open.

@@ -6,8 +6,9 @@ ghost use Rattle.ring_seat.specs.Seats.{new_end};
 
 use crate::check::check;
 use crate::only_seat::only_seat;
-use bus_script::Reply;
+use bus_script::{Ask, Reply};
 use contact::DeviceKind;
+use device_wire::BufferLists;
 use io_edge::NoGate;
 use ring_seat::{ChannelMem, GuestEnd, HostEnd};
 use std::alloc::AllocGlobal;
@@ -15,8 +16,20 @@ use std::process::Abort;
 use std::sync::Wait;
 use std::thread::join;
 use util_ic::{BeatMachine, IcAsk};
-use worker_pair::{GuestPlan, GuestSeat, GuestWorker, HostPlan, HostSeat, HostWorker};
+use worker_pair::{ChannelPlan, GuestSeat, GuestWorker, HostSeat, HostWorker};
 use worker_port::{Ended, Turn};
+
+// A channel of a heartbeat, with two requests.
+const PLAN: ChannelPlan = ChannelPlan {
+    relid: 1,
+    kind: DeviceKind::Beat,
+    sub: 0,
+    subs: 0,
+    window: 1,
+    count: 2,
+    lists: BufferLists::NONE,
+    stop: None,
+};
 
 // A guest that serves two heartbeats.
 fn guest_of(rt: &(impl Abort + AllocGlobal), end: GuestEnd) -> GuestWorker
@@ -25,19 +38,7 @@ fn guest_of(rt: &(impl Abort + AllocGlobal), end: GuestEnd) -> GuestWorker
 {
     let alloc = rt.alloc();
     let seat = only_seat(alloc, BeatMachine::make(), 2).expect(rt, "memory");
-    let plan = GuestPlan {
-        relid: 1,
-        kind: DeviceKind::Beat,
-        sub: 0,
-        subs: 0,
-        window: 1,
-        count: 2,
-        receive_list: 0,
-        send_list: 0,
-        disk: Vec::new(alloc),
-        net: Vec::new(alloc),
-    };
-    GuestWorker::make(alloc, end, GuestSeat::Beat(seat), plan).expect(rt, "memory")
+    GuestWorker::make(alloc, end, GuestSeat::Beat(seat), PLAN, Vec::new(alloc)).expect(rt, "memory")
 }
 
 // A host that asks for the heartbeats 7 and 8.
@@ -46,19 +47,12 @@ fn host_of(rt: &(impl Abort + AllocGlobal), end: HostEnd) -> HostWorker
     ensures { IsLive result }
 {
     let alloc = rt.alloc();
-    let asks = [IcAsk::Beat { seq: 7 }, IcAsk::Beat { seq: 8 }];
-    let plan = HostPlan {
-        relid: 1,
-        kind: DeviceKind::Beat,
-        sub: 0,
-        subs: 0,
-        window: 1,
-        count: 2,
-        stop: None,
-        asks: asks.to_vec(alloc).expect(rt, "memory"),
-        kvp: Vec::new(alloc),
-    };
-    HostWorker::make(alloc, end, HostSeat::None, plan).expect(rt, "memory")
+    let asks = [
+        Ask::Ic(IcAsk::Beat { seq: 7 }),
+        Ask::Ic(IcAsk::Beat { seq: 8 }),
+    ];
+    let asks = Vec::from_array(alloc, asks).expect(rt, "memory");
+    HostWorker::make(alloc, end, HostSeat::None, PLAN, asks).expect(rt, "memory")
 }
 
 // Both workers of one channel.

@@ -1,18 +1,17 @@
 -- What the workers of a channel are made for.
-use Rattle.std.specs.Prelude.{ℕ, zero, ◌≡◌, ◌≤◌, ◌+◌, Bool, true, List, [], ◌∷◌, length, map, filter, Option, Some, None, is_some}
+use Rattle.std.specs.Prelude.{ℕ, zero, ◌≡◌, ◌≤◌, ◌+◌, Bool, true, List, [], ◌∷◌, length, filter, Option, Some, None, is_some}
 use Rattle.ring_seat.specs.declared.table_seat.TableSeat.{TableSeat}
 use Rattle.std.specs.List.{AllByRecursion}
 use Rattle.script_lines.specs.Parts.{kind_asked}
 use Rattle.script_lines.specs.WellFormed.{CanGo}
 use Rattle.script_lines.specs.declared.line.Ask.{Ask}
-use Rattle.script_lines.specs.declared.line.Ask.TheVariants.{Ic as AskIc, Disk as AskDisk, Net as AskNet, Kvp as AskKvp}
 use Rattle.bus_script.specs.declared.outcome.Reply.{Reply}
 use Rattle.device_kinds.specs.Formats.{has_answer_on, ChannelScript, no_lists, startup}
 use Rattle.device_kinds.specs.Kinds.{IsAskable}
 use Rattle.device_wire.specs.declared.buffer_lists.BufferLists.{BufferLists}
 use Rattle.chan_state.specs.declared.stop.Stop.{Stop}
 use Rattle.contact.specs.declared.kind.DeviceKind.{DeviceKind}
-use Rattle.contact.specs.declared.kind.DeviceKind.TheVariants.{Beat as BeatKind, Down as DownKind, Disk as DiskKind, Net as NetKind, Kvp as KvpKind}
+use Rattle.contact.specs.declared.kind.DeviceKind.TheVariants.{Net as NetKind}
 use Rattle.io_edge.specs.declared.side.Side.{Side}
 use Rattle.io_edge.specs.declared.side.Side.TheVariants.{Guest}
 use Rattle.channel_model.specs.Channel.{count_of, held_of}
@@ -22,8 +21,6 @@ use Rattle.worker_server.specs.Serving.{Serving}
 use Rattle.worker_pair.specs.declared.channel_plan.ChannelPlan.{ChannelPlan}
 use Rattle.device_any.specs.Seats.{served_at, kind_at, left_at}
 use Rattle.device_any.specs.declared.device_seat.DeviceSeat.{DeviceSeat}
-use Rattle.worker_pair.specs.declared.guest_plan.GuestPlan.{GuestPlan}
-use Rattle.worker_pair.specs.declared.host_plan.HostPlan.{HostPlan}
 use Rattle.worker_pair.specs.declared.worker.Worker.{Worker}
 use Rattle.worker_pair.specs.declared.worker.Worker.TheVariants.{Asks, Serves}
 
@@ -50,25 +47,7 @@ pub record Planned : Type 0 where
   pub stop : Option (ℕ × Bool)
   pub asks : List Ask
 
--- what a guest asks a device of this kind, of its plan: the commands for a disk, or the messages for an adapter. It asks no service
-abbrev pub guest_asks : DeviceKind → GuestPlan → List Ask
-guest_asks DiskKind p = map AskDisk p.disk.items
-guest_asks NetKind p = map AskNet p.net.items
-guest_asks _ p = []
-
--- what a host asks one: the requests to a heartbeat or a shutdown service, or those to a key-value service. It asks no device of its own
-abbrev pub host_asks : DeviceKind → HostPlan → List Ask
-host_asks BeatKind p = map AskIc p.asks.items
-host_asks DownKind p = map AskIc p.asks.items
-host_asks KvpKind p = map AskKvp p.kvp.items
-host_asks _ p = []
-
-abbrev pub guest_planned : GuestPlan → Planned
-guest_planned p = record { relid = p.relid; kind = p.kind; sub = p.sub; subs = p.subs; window = p.window; count = p.count; lists = record { receive = p.receive_list; send = p.send_list }; stop = None; asks = guest_asks p.kind p }
-
-abbrev pub host_planned : HostPlan → Planned
-host_planned p = record { relid = p.relid; kind = p.kind; sub = p.sub; subs = p.subs; window = p.window; count = p.count; lists = no_lists; stop = stop_of p.stop; asks = host_asks p.kind p }
-
+-- what the workers of a channel are made for, where one of them asks these
 abbrev pub planned : ChannelPlan → List Ask → Planned
 planned p asks = record { relid = p.relid; kind = p.kind; sub = p.sub; subs = p.subs; window = p.window; count = p.count; lists = p.lists; stop = stop_of p.stop; asks = asks }
 

@@ -1,6 +1,6 @@
 -- The side of a device's seat, and the seats at a guest's and a host's end.
 use Rattle.std.specs.Prelude.{◌≡◌, Option, Some, None}
-use Rattle.device_any.specs.Seats.{DevicePlace, DiskPlace, NetPlace, device_place}
+use Rattle.device_any.specs.Seats.{device_place}
 use Rattle.device_any.specs.declared.device_seat.DeviceSeat.{DeviceSeat}
 use Rattle.device_any.specs.declared.device_seat.DeviceSeat.TheVariants.{Beat, Down, Disk, Net, Kvp}
 use Rattle.worker_pair.specs.declared.guest_seat.GuestSeat.{GuestSeat}
@@ -11,9 +11,9 @@ use Rattle.io_edge.specs.declared.side.Side.{Side}
 use Rattle.io_edge.specs.declared.side.Side.TheVariants.{Guest, Host}
 
 -- the side whose device it is: the services are the guest's, and the disks and the adapters are the host's
-abbrev pub side_in : DevicePlace → Side
-side_in (DiskPlace p) = Host
-side_in (NetPlace p) = Host
+abbrev pub side_in : DeviceSeat → Side
+side_in (Disk p) = Host
+side_in (Net p) = Host
 side_in _ = Guest
 
 -- no seat, or one of a device of this side

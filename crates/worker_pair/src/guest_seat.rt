@@ -45,8 +45,7 @@ impl GuestSeat {
             Some(DeviceSeat::Beat(seat)) => GuestSeat::Beat(seat),
             Some(DeviceSeat::Down(seat)) => GuestSeat::Down(seat),
             Some(DeviceSeat::Kvp(seat)) => GuestSeat::Kvp(seat),
-            Some(DeviceSeat::Disk(_)) => unreachable!(),
-            Some(DeviceSeat::Net(_)) => unreachable!(),
+            Some(_) => unreachable!(),
         }
     }
 }

@@ -5,13 +5,13 @@ ghost use Rattle.io_edge.specs.declared.side.Side.TheVariants.{Guest as GuestSid
 ghost use Rattle.worker_port.specs.Line.{paged_end};
 ghost use Rattle.worker_pair.specs.Pairs.{pages_on};
 ghost use Rattle.worker_pair.specs.Leaving.{Leaves, of_guest};
-ghost use Rattle.worker_pair.specs.Plans.{CanPlan, HasSeat, IsMade, guest_planned};
+ghost use Rattle.worker_pair.specs.Plans.{CanPlan, HasSeat, IsMade, planned};
 ghost use Rattle.worker_pair.specs.Seats.{IsAt, at_guest};
 ghost use Rattle.worker_pair.specs.Workers.{Caused, GoesOn, IsLive, IsOfSide, Tried, Turned, end_at};
 
-use crate::making::{guest_asks, make_worker};
-use crate::{ChannelPlan, GuestDone, GuestPlan, GuestSeat, Worker, WorkerDone};
-use device_wire::BufferLists;
+use crate::making::make_worker;
+use crate::{ChannelPlan, GuestDone, GuestSeat, Worker, WorkerDone};
+use bus_script::Ask;
 use io_edge::{Gate, Side};
 use ring_seat::GuestEnd;
 use std::alloc::{AllocError, Global};
@@ -38,46 +38,25 @@ impl Model for GuestWorker {
 }
 
 impl GuestWorker {
-    /// A worker over a new end of the guest, and a new seat where it serves. It takes all memory that the phase needs.
+    /// A worker over a new end of the guest, and a new seat where it serves; where it asks, it asks these. It takes all memory that the phase needs.
     pub fn make(
         alloc: Global,
         end: GuestEnd,
         seat: GuestSeat,
-        plan: GuestPlan,
+        plan: ChannelPlan,
+        asks: Vec<Ask>,
     ) -> Result<GuestWorker, AllocError>
-        requires plan { CanPlan GuestSide (guest_planned plan) }
-        requires seat { HasSeat GuestSide (guest_planned plan) (at_guest seat) }
+        requires plan { CanPlan GuestSide (planned plan asks.items) }
+        requires seat { HasSeat GuestSide (planned plan asks.items) (at_guest seat) }
         requires fresh { end.state ≡ paged_end (pages_on plan.kind plan.window) end.state.machine.cells GuestSide }
         requires size { (512 ≤ end.state.machine.cells) × (end.state.machine.cells ≤ 16777216) }
-        ensures made { IfOk result (IsMade (guest_planned plan) (at_guest seat)) }
+        ensures made { IfOk result (IsMade (planned plan asks.items) (at_guest seat)) }
         ensures end { IfOk result (λ w. ((end_at w).state ≡ end.state) × ((end_at w).seat ≡ end.seat)) }
         ensures live { IfOk result IsLive }
     {
-        let channel = ChannelPlan {
-            relid: plan.relid,
-            kind: plan.kind,
-            sub: plan.sub,
-            subs: plan.subs,
-            window: plan.window,
-            count: plan.count,
-            lists: BufferLists {
-                receive: plan.receive_list,
-                send: plan.send_list,
-            },
-            stop: None,
-        };
         let seat = seat.into_device();
-        match guest_asks(alloc, plan) {
-            Ok(asks) => {
-                let worker = make_worker(alloc, Side::Guest, end, seat, channel, asks)?;
-                Ok(GuestWorker::over(worker))
-            }
-            Err(refused) => {
-                drop(end);
-                drop(seat);
-                Err(refused)
-            }
-        }
+        let worker = make_worker(alloc, Side::Guest, end, seat, plan, asks)?;
+        Ok(GuestWorker::over(worker))
     }
 
     /// A turn. An end that is asleep polls its signal. Otherwise the worker takes a packet, sends one, serves one, ends, or falls asleep.

@@ -41,9 +41,7 @@ impl HostSeat {
             None => HostSeat::None,
             Some(DeviceSeat::Disk(seat)) => HostSeat::Disk(seat),
             Some(DeviceSeat::Net(seat)) => HostSeat::Net(seat),
-            Some(DeviceSeat::Beat(_)) => unreachable!(),
-            Some(DeviceSeat::Down(_)) => unreachable!(),
-            Some(DeviceSeat::Kvp(_)) => unreachable!(),
+            Some(_) => unreachable!(),
         }
     }
 }

@@ -5,13 +5,13 @@ ghost use Rattle.io_edge.specs.declared.side.Side.TheVariants.{Host as HostSide}
 ghost use Rattle.worker_port.specs.Line.{paged_end};
 ghost use Rattle.worker_pair.specs.Pairs.{pages_on};
 ghost use Rattle.worker_pair.specs.Leaving.{Leaves, of_host};
-ghost use Rattle.worker_pair.specs.Plans.{CanPlan, HasSeat, IsMade, host_planned};
+ghost use Rattle.worker_pair.specs.Plans.{CanPlan, HasSeat, IsMade, planned};
 ghost use Rattle.worker_pair.specs.Seats.{IsAt, at_host};
 ghost use Rattle.worker_pair.specs.Workers.{Caused, GoesOn, IsLive, IsOfSide, Tried, Turned, end_at};
 
-use crate::making::{host_asks, make_worker};
-use crate::{ChannelPlan, HostDone, HostPlan, HostSeat, Worker, WorkerDone};
-use device_wire::BufferLists;
+use crate::making::make_worker;
+use crate::{ChannelPlan, HostDone, HostSeat, Worker, WorkerDone};
+use bus_script::Ask;
 use io_edge::{Gate, Side};
 use ring_seat::HostEnd;
 use std::alloc::{AllocError, Global};
@@ -38,43 +38,25 @@ impl Model for HostWorker {
 }
 
 impl HostWorker {
-    /// A worker over a new end of the host, and a new seat where it serves. It takes all memory that the phase needs.
+    /// A worker over a new end of the host, and a new seat where it serves; where it asks, it asks these. It takes all memory that the phase needs.
     pub fn make(
         alloc: Global,
         end: HostEnd,
         seat: HostSeat,
-        plan: HostPlan,
+        plan: ChannelPlan,
+        asks: Vec<Ask>,
     ) -> Result<HostWorker, AllocError>
-        requires plan { CanPlan HostSide (host_planned plan) }
-        requires seat { HasSeat HostSide (host_planned plan) (at_host seat) }
+        requires plan { CanPlan HostSide (planned plan asks.items) }
+        requires seat { HasSeat HostSide (planned plan asks.items) (at_host seat) }
         requires fresh { end.state ≡ paged_end (pages_on plan.kind plan.window) end.state.machine.cells HostSide }
         requires size { (512 ≤ end.state.machine.cells) × (end.state.machine.cells ≤ 16777216) }
-        ensures made { IfOk result (IsMade (host_planned plan) (at_host seat)) }
+        ensures made { IfOk result (IsMade (planned plan asks.items) (at_host seat)) }
         ensures end { IfOk result (λ w. ((end_at w).state ≡ end.state) × ((end_at w).seat ≡ end.seat)) }
         ensures live { IfOk result IsLive }
     {
-        let channel = ChannelPlan {
-            relid: plan.relid,
-            kind: plan.kind,
-            sub: plan.sub,
-            subs: plan.subs,
-            window: plan.window,
-            count: plan.count,
-            lists: BufferLists::NONE,
-            stop: plan.stop,
-        };
         let seat = seat.into_device();
-        match host_asks(alloc, plan) {
-            Ok(asks) => {
-                let worker = make_worker(alloc, Side::Host, end, seat, channel, asks)?;
-                Ok(HostWorker::over(worker))
-            }
-            Err(refused) => {
-                drop(end);
-                drop(seat);
-                Err(refused)
-            }
-        }
+        let worker = make_worker(alloc, Side::Host, end, seat, plan, asks)?;
+        Ok(HostWorker::over(worker))
     }
 
     /// A turn. An end that is asleep polls its signal. Otherwise the worker takes a packet, sends one, serves one, ends, or falls asleep.

@@ -14,14 +14,14 @@ ghost use Rattle.device_kinds.specs.Kinds.{IsAskable};
 ghost use Rattle.worker_port.specs.Line.{paged_end};
 ghost use Rattle.channel_model.specs.Roles.{side_that_asks};
 ghost use Rattle.worker_pair.specs.Pairs.{pages_on};
-ghost use Rattle.worker_pair.specs.Plans.{AllCarried, CanPlan, HasSeat, IsMade, guest_asks, host_asks, planned, silent, stop_of};
+ghost use Rattle.worker_pair.specs.Plans.{AllCarried, CanPlan, HasSeat, IsMade, planned, silent, stop_of};
 ghost use Rattle.channel_model.specs.Channel.{count_of, held_of};
 ghost use Rattle.device_any.specs.Seats.{served_at, kind_at, left_at};
 ghost use Rattle.worker_pair.specs.Seats.{IsAt};
 ghost use Rattle.worker_pair.specs.Workers.{IsLive, IsOfSide, end_at};
 
+use crate::ChannelPlan;
 use crate::worker::{ChannelRequester, ChannelServer, Worker};
-use crate::{ChannelPlan, GuestPlan, HostPlan};
 use bus_script::Ask;
 use chan_state::Stop;
 use channel_protocol::Protocol;
@@ -74,7 +74,7 @@ fn ask_can(kind: DeviceKind, ask: &Ask)
         Ask::Ic(ask) => service_can(kind, *ask),
         Ask::Disk(request) => disk_can(&request.cdb, request.out.bytes()),
         Ask::Net(message) => message_can(message),
-        Ask::Kvp(_) => {}
+        _ => {}
     }
 }
 
@@ -85,28 +85,6 @@ fn all_can(kind: DeviceKind, asks: &[Ask])
 {
     for ask in asks {
         ask_can(kind, ask);
-    }
-}
-
-/// What a guest asks the device of its plan.
-pub(crate) fn guest_asks(alloc: Global, plan: GuestPlan) -> Result<Vec<Ask>, AllocError>
-    ensures { IfOk result (λ asks. asks.items ≡ guest_asks plan.kind plan) }
-{
-    match plan.kind {
-        DeviceKind::Disk => plan.disk.into_iter().map(Ask::Disk).collect(alloc),
-        DeviceKind::Net => plan.net.into_iter().map(Ask::Net).collect(alloc),
-        _ => Ok(Vec::new(alloc)),
-    }
-}
-
-/// What a host asks the device of its plan.
-pub(crate) fn host_asks(alloc: Global, plan: HostPlan) -> Result<Vec<Ask>, AllocError>
-    ensures { IfOk result (λ asks. asks.items ≡ host_asks plan.kind plan) }
-{
-    match plan.kind {
-        DeviceKind::Beat | DeviceKind::Down => plan.asks.into_iter().map(Ask::Ic).collect(alloc),
-        DeviceKind::Kvp => plan.kvp.into_iter().map(Ask::Kvp).collect(alloc),
-        _ => Ok(Vec::new(alloc)),
     }
 }
 
