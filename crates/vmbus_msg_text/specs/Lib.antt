@@ -3,5 +3,5 @@ pub mod Pieces
 pub mod Names
 pub mod Text
 pub mod Output
-pub mod Shown
+pub mod Layouts
 pub mod Prints

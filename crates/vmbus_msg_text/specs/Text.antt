@@ -2,12 +2,11 @@
 use Rattle.std.specs.Prelude.{ℕ, ◌==◌, ◌||◌, List, [], ◌∷◌, ◌++◌, codes, Option, Some, None, if◌then◌else◌}
 use Rattle.std.specs.Fmt.{decimal}
 use Rattle.wire_table.specs.Rows.{Row, rows_at, number_in, raw_in}
-use Rattle.vmbus_msg.specs.declared.msg.Msg.{Msg}
 use Rattle.vmbus_msg.specs.declared.fault.MsgFault.{MsgFault}
 use Rattle.vmbus_msg.specs.declared.fault.MsgFault.TheVariants.{Short, Unknown, Long, Field}
 use Rattle.vmbus_msg.specs.declared.field_name.FieldName.{FieldName}
 use Rattle.vmbus_msg.specs.declared.field_name.FieldName.TheVariants.{RangeBuflen, Rangecount}
-use Rattle.vmbus_msg.specs.Grammar.{type_of, fields_of, frames_of, kinds_of}
+use Rattle.vmbus_msg.specs.Grammar.{kinds_of}
 use Rattle.vmbus_msg.specs.Faults.{fault_of, value_at}
 use Rattle.vmbus_msg.specs.Reading.{frames_at}
 use Rattle.vmbus_msg_text.specs.Pieces.{named_text, joined}
@@ -31,10 +30,6 @@ frame_pieces k frames = if k == 8 || k == 9 then named_text (codes "frames") (nu
 -- what is printed of a message of a type, with these fields and frames
 abbrev pub told_text : ℕ → List Row → List ℕ → List ℕ
 told_text k rows frames = name_of k ++ joined (field_pieces (shows_of k) rows ++ frame_pieces k frames)
-
--- the text of a message
-abbrev pub msg_text : Msg → List ℕ
-msg_text m = told_text (type_of m) (fields_of m) (frames_of m)
 
 -- a checked field's name
 abbrev pub checked_name : FieldName → List ℕ

@@ -3,10 +3,10 @@
 
 mod field;
 mod input;
+mod layout;
 mod line;
 mod message;
 mod push;
-mod shown;
 
 pub use input::decode_text;
 pub use message::push_fault;

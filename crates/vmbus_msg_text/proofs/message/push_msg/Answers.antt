@@ -1,56 +1,30 @@
-use Rattle.vmbus_msg_text.proofs.Found.{told_as}
+use Rattle.std.proofs.Common.{◌≡◌, ℕ, ◌+◌, ◌≤◌, length, ◌==◌, ◌||◌, true, false, subst, sym, arith}
+use Rattle.std.proofs.lemmas.Bool.Decides.{nat_tests}
+use Rattle.wire_table.specs.Rows.{total}
+use Rattle.vmbus_msg.specs.Grammar.{kinds_of}
+use Rattle.vmbus_msg_text.proofs.Found.{read_within, plain_told, framed_told}
 use Rattle.vmbus_msg_text.proofs.message.push_msg.Goals as goal
+use Rattle.vmbus_msg_text.proofs.message.push_msg.Goals.{then-kind-eq8-via-then-kind-eq8, then-kind-eq8-via-else-kind-eq8+then-kind-eq9}
 
-pub returns-in-OfferChannel-clause-text : goal.returns-in-OfferChannel-clause-text
-returns-in-OfferChannel-clause-text c = told_as _ _ c.args.text.now.items _ _ c.in-OfferChannel.is c.push_fields.ensures.text
+pub get_at-kind-requires-clause-within : goal.get_at-kind-requires-clause-within
+get_at-kind-requires-clause-within c = let h = read_within c.args.bytes.now c.args.message.now c.requires in omega (arith, h)
 
-pub returns-in-RescindChannelOffer-clause-text : goal.returns-in-RescindChannelOffer-clause-text
-returns-in-RescindChannelOffer-clause-text c = told_as _ _ c.args.text.now.items _ _ c.in-RescindChannelOffer.is c.push_fields-in-RescindChannelOffer.ensures.text
+pub push_known-requires : goal.push_known-requires
+push_known-requires c =
+    subst (λ (k : ℕ). 4 + total (kinds_of k) ≤ length c.args.bytes.now) (sym c.get_at-kind.ensures.value) (read_within c.args.bytes.now c.args.message.now c.requires)
 
-pub returns-in-RequestOffers-clause-text : goal.returns-in-RequestOffers-clause-text
-returns-in-RequestOffers-clause-text c = told_as _ _ c.args.text.now.items _ _ c.in-RequestOffers.is c.push_fields-in-RequestOffers.ensures.text
+pub returns-in_ok-push_numbers-clause-text : goal.returns-in_ok-push_numbers-clause-text
+returns-in_ok-push_numbers-clause-text c =
+    let framed : (c.get_at-kind.result == 8 || c.get_at-kind.result == 9) ≡ true = elim c.then-kind-eq8.branch [
+      | then-kind-eq8-via-then-kind-eq8 w ↦ let h = w.if-kind-eq8.true in grind (arith, nat_tests, h)
+      | then-kind-eq8-via-else-kind-eq8+then-kind-eq9 w ↦ let h = w.if-kind-eq9.true in grind (arith, nat_tests, h)
+    ] in
+    framed_told c.args.bytes.now c.args.message.now c.get_at-kind.result c.args.text.now.items _ _ _ c.requires c.get_at-kind.ensures.value framed c.in_ok-push_known.ensures.text c.in_ok-push_name.ensures.text
+    (rw c.frames_of.ensures.value at c.in_ok-push_numbers.ensures.text)
 
-pub returns-in-AllOffersDelivered-clause-text : goal.returns-in-AllOffersDelivered-clause-text
-returns-in-AllOffersDelivered-clause-text c = told_as _ _ c.args.text.now.items _ _ c.in-AllOffersDelivered.is c.push_fields-in-AllOffersDelivered.ensures.text
-
-pub returns-in-OpenChannel-clause-text : goal.returns-in-OpenChannel-clause-text
-returns-in-OpenChannel-clause-text c = told_as _ _ c.args.text.now.items _ _ c.in-OpenChannel.is c.push_fields-in-OpenChannel.ensures.text
-
-pub returns-in-OpenChannelResult-clause-text : goal.returns-in-OpenChannelResult-clause-text
-returns-in-OpenChannelResult-clause-text c = told_as _ _ c.args.text.now.items _ _ c.in-OpenChannelResult.is c.push_fields-in-OpenChannelResult.ensures.text
-
-pub returns-in-CloseChannel-clause-text : goal.returns-in-CloseChannel-clause-text
-returns-in-CloseChannel-clause-text c = told_as _ _ c.args.text.now.items _ _ c.in-CloseChannel.is c.push_fields-in-CloseChannel.ensures.text
-
-pub returns-in-GpadlCreated-clause-text : goal.returns-in-GpadlCreated-clause-text
-returns-in-GpadlCreated-clause-text c = told_as _ _ c.args.text.now.items _ _ c.in-GpadlCreated.is c.push_fields-in-GpadlCreated.ensures.text
-
-pub returns-in-GpadlTeardown-clause-text : goal.returns-in-GpadlTeardown-clause-text
-returns-in-GpadlTeardown-clause-text c = told_as _ _ c.args.text.now.items _ _ c.in-GpadlTeardown.is c.push_fields-in-GpadlTeardown.ensures.text
-
-pub returns-in-GpadlTorndown-clause-text : goal.returns-in-GpadlTorndown-clause-text
-returns-in-GpadlTorndown-clause-text c = told_as _ _ c.args.text.now.items _ _ c.in-GpadlTorndown.is c.push_fields-in-GpadlTorndown.ensures.text
-
-pub returns-in-RelidReleased-clause-text : goal.returns-in-RelidReleased-clause-text
-returns-in-RelidReleased-clause-text c = told_as _ _ c.args.text.now.items _ _ c.in-RelidReleased.is c.push_fields-in-RelidReleased.ensures.text
-
-pub returns-in-InitiateContact-clause-text : goal.returns-in-InitiateContact-clause-text
-returns-in-InitiateContact-clause-text c = told_as _ _ c.args.text.now.items _ _ c.in-InitiateContact.is c.push_fields-in-InitiateContact.ensures.text
-
-pub returns-in-VersionResponse-clause-text : goal.returns-in-VersionResponse-clause-text
-returns-in-VersionResponse-clause-text c = told_as _ _ c.args.text.now.items _ _ c.in-VersionResponse.is c.push_fields-in-VersionResponse.ensures.text
-
-pub returns-in-Unload-clause-text : goal.returns-in-Unload-clause-text
-returns-in-Unload-clause-text c = told_as _ _ c.args.text.now.items _ _ c.in-Unload.is c.push_fields-in-Unload.ensures.text
-
-pub returns-in-UnloadResponse-clause-text : goal.returns-in-UnloadResponse-clause-text
-returns-in-UnloadResponse-clause-text c = told_as _ _ c.args.text.now.items _ _ c.in-UnloadResponse.is c.push_fields-in-UnloadResponse.ensures.text
-
-pub returns-in-TlConnectRequest-clause-text : goal.returns-in-TlConnectRequest-clause-text
-returns-in-TlConnectRequest-clause-text c = told_as _ _ c.args.text.now.items _ _ c.in-TlConnectRequest.is c.push_fields-in-TlConnectRequest.ensures.text
-
-pub returns-in-ModifyChannel-clause-text : goal.returns-in-ModifyChannel-clause-text
-returns-in-ModifyChannel-clause-text c = told_as _ _ c.args.text.now.items _ _ c.in-ModifyChannel.is c.push_fields-in-ModifyChannel.ensures.text
-
-pub returns-in-ModifyChannelResponse-clause-text : goal.returns-in-ModifyChannelResponse-clause-text
-returns-in-ModifyChannelResponse-clause-text c = told_as _ _ c.args.text.now.items _ _ c.in-ModifyChannelResponse.is c.push_fields-in-ModifyChannelResponse.ensures.text
+pub returns-else-kind-eq9-clause-text : goal.returns-else-kind-eq9-clause-text
+returns-else-kind-eq9-clause-text c =
+    let a = c.if-kind-eq8.false in
+    let b = c.if-kind-eq9.false in
+    let other : (c.get_at-kind.result == 8 || c.get_at-kind.result == 9) ≡ false = grind (arith, nat_tests, a, b) in
+    plain_told c.args.bytes.now c.args.message.now c.get_at-kind.result c.args.text.now.items _ c.requires c.get_at-kind.ensures.value other c.in_ok-push_known.ensures.text
