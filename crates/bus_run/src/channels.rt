@@ -46,15 +46,35 @@ pub fn run_channels<R: Threads + Wait + Sync, G: Gate>(
     ensures worked { OnOk result ((p : Phase) → CanRun phase plan.items boxes.old.items p → HaveWorked path.now.guest.posted settings.now p settled.old.items settled.new.items work.old.items work.new.items) }
     ensures ready { OnOk result (All (IsReady (4096 * (phase + 1))) boxes.new.items) }
 {
-    share_all(alloc, phase, &plan, boxes)?;
-    let dues = all_due(alloc, &plan)?;
-    let pairs = open_all(alloc, plan, settings, boxes, path)?;
+    let Ok(()) = share_all(alloc, phase, &plan, boxes) else {
+        drop(plan);
+        return Err(AllocError);
+    };
+    let Ok(dues) = all_due(alloc, &plan) else {
+        drop(plan);
+        return Err(AllocError);
+    };
+    let Ok(pairs) = open_all(alloc, plan, settings, boxes, path) else {
+        drop(dues);
+        return Err(AllocError);
+    };
     let opened = Snapshot::of(&pairs);
-    let mut done = Vec::with_capacity(alloc, pairs.len())?;
+    let Ok(mut done) = Vec::with_capacity(alloc, pairs.len()) else {
+        drop(dues);
+        drop(pairs);
+        return Err(AllocError);
+    };
     bus_threads::run_phase(rt, pairs, &mut done, gate);
     let left = Snapshot::of(&done);
-    let outcomes = close_all(alloc, phase, is_last, &dues, done, boxes, settled)?;
+    let Ok(outcomes) = close_all(alloc, phase, is_last, &dues, done, boxes, settled) else {
+        drop(dues);
+        return Err(AllocError);
+    };
+    drop(dues);
     unite_all(boxes);
-    work.push(PhaseWork { opened, left })?;
+    let Ok(()) = work.push(PhaseWork { opened, left }) else {
+        drop(outcomes);
+        return Err(AllocError);
+    };
     Ok(outcomes)
 }

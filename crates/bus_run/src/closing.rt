@@ -27,15 +27,7 @@ fn end_channel(asked: usize, done: PairDone) -> (Settled, DeviceSeat, ChannelOut
     ensures ended { (order : OneOrder) (first : OneSeat) → length order.asks ≡ asked → RanPair order first done → ChannelEnded order first result.0 result.1 result.2 }
     ensures settled { result.0 ≡ done.settled }
 {
-    let PairDone {
-        settled,
-        guest_seat,
-        host_seat,
-        guest: _,
-        host: _,
-        serials,
-        replies,
-    } = done;
+    let (settled, guest_seat, host_seat, serials, replies) = done.into_parts();
     let Some(seat) = serving_seat(guest_seat, host_seat) else {
         unreachable!();
     };
@@ -48,6 +40,29 @@ fn make_place(lists: &mut Settled, is_last: bool) -> Result<(), AllocError>
     ensures { lists.new ≡ lists.old }
 {
     if is_last { Ok(()) } else { lists.trim() }
+}
+
+/// What a channel carried stands behind the runs before.
+fn keep_lists(
+    phase: u32,
+    is_last: bool,
+    due: &Due,
+    mut lists: Settled,
+    settled: &mut Vec<ChannelRun>,
+) -> Result<(), AllocError>
+    ensures { OnOk result (settled.new.items ≡ settled.old.items ++ record { phase = phase; relid = due.now.opening.relid; device = due.now.opening.device; settled = lists } ∷ []) }
+{
+    let Ok(()) = make_place(&mut lists, is_last) else {
+        drop(lists);
+        return Err(AllocError);
+    };
+    settled.push(ChannelRun {
+        phase,
+        relid: due.opening.relid,
+        device: due.opening.device,
+        settled: lists,
+    })?;
+    Ok(())
 }
 
 /// Closes a channel: what it carried stands behind the runs before, its seat is given back, and the answer is the outcomes of its requests. `is_last` says that
@@ -69,15 +84,16 @@ fn close_channel(
     let Some(done) = dones.next() else {
         unreachable!();
     };
-    let (mut lists, seat, outcomes) = end_channel(due.count, done);
-    make_place(&mut lists, is_last)?;
-    own.give_back(seat)?;
-    settled.push(ChannelRun {
-        phase,
-        relid: due.opening.relid,
-        device: due.opening.device,
-        settled: lists,
-    })?;
+    let (lists, seat, outcomes) = end_channel(due.count, done);
+    let Ok(()) = own.give_back(seat) else {
+        drop(lists);
+        drop(outcomes);
+        return Err(AllocError);
+    };
+    let Ok(()) = keep_lists(phase, is_last, due, lists, settled) else {
+        drop(outcomes);
+        return Err(AllocError);
+    };
     Ok(outcomes)
 }
 

@@ -33,13 +33,22 @@ use std::thread::Threads;
 
 /// What a run of a script gives: what each channel carried, in order of phase and then of relid; what each device served, in order of offer; and the
 /// outcome of each line that prints. A runner alone makes one. Contracts see the workers of each phase and the control path whose parts stood round the phases, too.
-#[derive(Drop)]
 pub struct ScriptRun {
     settled: Vec<ChannelRun>,
     histories: Vec<DeviceHistory>,
     results: Vec<LineResult>,
     work: Vec<PhaseWork>,
     path: Snapshot<ControlPath>,
+}
+
+// By this a run goes by one call wherever it goes, and its parts go here alone.
+impl Drop for ScriptRun {
+    fn drop(self) {
+        let (settled, histories, results) = self.into_lists();
+        drop(settled);
+        drop(histories);
+        drop(results);
+    }
 }
 
 impl ScriptRun {
@@ -61,7 +70,6 @@ impl ScriptRun {
 }
 
 /// A script under way, between two of its phases.
-#[derive(Drop)]
 pub struct Runner {
     // the version that both ends agreed on
     version: Version,
@@ -80,6 +88,31 @@ pub struct Runner {
     work: Vec<PhaseWork>,
     // the control path whose parts stand round the phases, as it was at the start
     path: Snapshot<ControlPath>,
+}
+
+// So does a runner.
+impl Drop for Runner {
+    fn drop(self) {
+        let Runner {
+            version: _,
+            boxes,
+            settings,
+            ended,
+            phase: _,
+            next: _,
+            relid: _,
+            settled,
+            results,
+            work,
+            path: _,
+        } = self;
+        drop(boxes);
+        drop(settings);
+        drop(ended);
+        drop(settled);
+        drop(results);
+        drop(work);
+    }
 }
 
 /// The device that a line offers, with the bad places of all lines.
@@ -261,14 +294,24 @@ impl Runner {
         ensures path { IfOk result (λ ran. ran.path.value ≡ self.path.value) }
     {
         let Runner {
+            version: _,
             boxes,
+            settings: _,
+            ended: _,
+            phase: _,
+            next: _,
+            relid: _,
             settled,
             results,
             work,
             path,
-            ..
         } = self;
-        let histories = histories_of(alloc, boxes)?;
+        let Ok(histories) = histories_of(alloc, boxes) else {
+            drop(settled);
+            drop(results);
+            drop(work);
+            return Err(AllocError);
+        };
         Ok(ScriptRun {
             settled,
             histories,

@@ -15,10 +15,18 @@ use worker_port::Ended;
 
 /// The two workers of a channel, before they run. They have the ends of one channel, one asks and the other serves, and the one that serves made room for
 /// all that comes.
-#[derive(Drop)]
 pub struct Pair {
     pub guest: GuestWorker,
     pub host: HostWorker,
+}
+
+// By this a pair goes by one call wherever it goes, and its parts go here alone.
+impl Drop for Pair {
+    fn drop(self) {
+        let Pair { guest, host } = self;
+        drop(guest);
+        drop(host);
+    }
 }
 
 impl Model for Pair {
@@ -45,7 +53,6 @@ impl Pair {
 
 /// What the two workers of a channel leave: what both ends sent and got, their seats, how they ended, and the serials and replies of the script's
 /// requests.
-#[derive(Drop)]
 pub struct PairDone {
     pub settled: Settled,
     pub guest_seat: GuestSeat,
@@ -54,6 +61,36 @@ pub struct PairDone {
     pub host: Ended,
     pub serials: Vec<u32>,
     pub replies: Vec<Reply>,
+}
+
+// So does what a pair leaves.
+impl Drop for PairDone {
+    fn drop(self) {
+        let (settled, guest_seat, host_seat, serials, replies) = self.into_parts();
+        drop(settled);
+        drop(guest_seat);
+        drop(host_seat);
+        drop(serials);
+        drop(replies);
+    }
+}
+
+impl PairDone {
+    /// What both ends sent and got, their seats, and the serials and replies.
+    pub fn into_parts(self) -> (Settled, GuestSeat, HostSeat, Vec<u32>, Vec<Reply>)
+        ensures { result ≡ (self.settled, self.guest_seat, self.host_seat, self.serials, self.replies) }
+    {
+        let PairDone {
+            settled,
+            guest_seat,
+            host_seat,
+            guest: _,
+            host: _,
+            serials,
+            replies,
+        } = self;
+        (settled, guest_seat, host_seat, serials, replies)
+    }
 }
 
 /// The seat of the end that served.

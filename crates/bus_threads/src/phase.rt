@@ -26,6 +26,7 @@ fn start_hosts<'s, E, R: Threads + Wait + Sync, G: Gate>(
     ensures count { array_vec_len hosted.new ≡ length pairs.items }
 {
     let Some(pair) = pairs.pop() else {
+        drop(pairs);
         return;
     };
     let place = pairs.len();
@@ -114,7 +115,10 @@ fn run_all<'s, E, R: Threads + Wait + Sync, G: Gate>(
     start_hosts(rt, gate, scope, words, pairs, &mut hosted);
     let mut begun = ArrayVec::new();
     start_guests(rt, gate, scope, words, &mut hosted, &mut begun);
-    end_all(rt, gate, &mut begun, done)
+    drop(hosted);
+    let done = end_all(rt, gate, &mut begun, done);
+    drop(begun);
+    done
 }
 
 // Runs all channels in a scope of threads.

@@ -1,13 +1,17 @@
 //! An end under test, and the parts beside it.
-ghost use Rattle.std.specs.Prelude.{◌≡◌, ◌≤◌, ◌+◌, ◌*◌, ◌++◌, ℕ, List, OnOk, vec_len, codes};
+ghost use Rattle.std.specs.Prelude.{◌≡◌, ◌≤◌, ◌+◌, ◌*◌, ◌/◌, ◌++◌, ◌∷◌, [], ℕ, List, None, IfOk, OnOk, vec_len, codes};
 ghost use Rattle.std.specs.Fmt.{decimal};
+ghost use Rattle.ring_machine.specs.Places.{IsRingSize};
+ghost use Rattle.ring_core.specs.Told.{pair};
 ghost use Rattle.hostile_lines.specs.Ranges.{IsCommandIn};
+ghost use Rattle.hostile_honest_end.specs.Calls.{new_guest};
 ghost use Rattle.hostile_run.specs.Run.{SaysCommand, line_text};
 
 use hostile_decoders::Parts;
 use hostile_honest_end::TestedEnd;
 use hostile_lines::{Command, CommandLine};
 use line_words::hex_16;
+use ring_core::ToldMem;
 use script_text::push_decimal;
 use std::alloc::{AllocError, Global};
 use std::marker::Model;
@@ -28,6 +32,20 @@ impl Model for Bench {
 }
 
 impl Bench {
+    /// A guest's new end over the words of a channel whose rings have `d` bytes of data, a table of one id, and no page list.
+    pub(crate) fn make(alloc: Global, d: u32, mem: ToldMem) -> Result<Bench, AllocError>
+        requires size { IsRingSize d × (d ≤ 65536) }
+        requires mem { (mem.cells ≡ d / 8) × (mem.pages ≡ 0) }
+        ensures { IfOk result (λ b. b ≡ record { at = pair (new_guest (d / 8)) mem.memory; parts = record { table = None ∷ []; lists = record { building = None; live = [] } } }) }
+    {
+        let end = TestedEnd::make(alloc, d, mem)?;
+        let Ok(parts) = Parts::make(alloc) else {
+            drop(end);
+            return Err(AllocError);
+        };
+        Ok(Bench { end, parts })
+    }
+
     // Does what a command asks, and puts behind the text what that came to.
     fn command(
         &mut self,

@@ -7,8 +7,6 @@ ghost use Rattle.hostile_run.specs.Run.{Stand, SaysLines, opening_stand, end_tex
 
 use crate::bench::Bench;
 use crate::puts::put_all;
-use hostile_decoders::Parts;
-use hostile_honest_end::TestedEnd;
 use hostile_lines::{CommandLine, Hostile, in_step_order, parse_hostile};
 use ring_core::{Change, ToldMem};
 use script_text::{ParseFault, push_decimal};
@@ -42,6 +40,19 @@ fn push_end(text: &mut Vec<u8>, steps: u64) -> Result<(), AllocError>
     Ok(())
 }
 
+// The text of lines, and of how many steps the end made.
+fn run_lines(alloc: Global, bench: &mut Bench, lines: &[CommandLine]) -> Result<Vec<u8>, AllocError>
+    requires range { All (IsLineIn (8 * bench.old.at.state.machine.cells)) lines.now }
+    requires few { length lines.now ≤ 256 }
+    ensures says { IfOk result (λ text. (said : List ℕ) × SaysLines lines.now bench.old bench.new said × (text.items ≡ said ++ end_text bench.new.at.memory.steps)) }
+    ensures short { IfOk result (λ text. length text.items ≤ 36000000) }
+{
+    let mut text = Vec::new(alloc);
+    push_lines(alloc, bench, lines, &mut text)?;
+    push_end(&mut text, bench.end.steps())?;
+    Ok(text)
+}
+
 // Runs what an input says, behind its changes in the order of their steps.
 fn run_input(alloc: Global, hostile: &Hostile, due: Vec<Change>) -> Result<Vec<u8>, AllocError>
     requires due { IsScript (512 * unwrap_or hostile.now.ring 1) 0 due.items }
@@ -51,15 +62,10 @@ fn run_input(alloc: Global, hostile: &Hostile, due: Vec<Change>) -> Result<Vec<u
     let d = 4096 * hostile.pages();
     let mut mem = ToldMem::make(alloc, d, due, 0)?;
     put_all(&mut mem, d, hostile.puts());
-    let mut bench = Bench {
-        end: TestedEnd::make(alloc, d, mem)?,
-        parts: Parts::make(alloc)?,
-    };
-    let mut text = Vec::new(alloc);
-    push_lines(alloc, &mut bench, hostile.asked(), &mut text)?;
-    push_end(&mut text, bench.end.steps())?;
+    let mut bench = Bench::make(alloc, d, mem)?;
+    let text = run_lines(alloc, &mut bench, hostile.asked());
     drop(bench);
-    Ok(text)
+    text
 }
 
 /// Runs a guest's end, and the parts beside it, by the lines of an input, beside a peer that writes what the lines say. Its text has a line for each line that asks

@@ -9,7 +9,9 @@ ghost use Rattle.bus_run.specs.Whole.{RunsSoFar};
 ghost use Rattle.vmbus_main.specs.Between.{IsBetween};
 ghost use Rattle.control_model.specs.Guest.{new_guest};
 ghost use Rattle.control_model.specs.Openings.{plan_of};
-ghost use Rattle.control_path.specs.Path.{Rests};
+ghost use Rattle.control_path.specs.Path.{Rests, RanPart};
+ghost use Rattle.control_path.specs.declared.path.ControlPath.{ControlPath as OnePath};
+ghost use Rattle.contact.specs.declared.part.Part.TheVariants.{Unload};
 ghost use Rattle.vmbus_main.specs.Controls.{AreControls};
 ghost use Rattle.vmbus_main.specs.Round.{StoodRound};
 
@@ -49,11 +51,18 @@ pub fn run_script<R: Threads + Wait + Sync, G: Gate>(
     ensures round { IfOk result (λ ran. StoodRound ran) }
 {
     let path = ControlPath::make(alloc, script)?;
-    let mut runner = Runner::make(alloc, script, &path)?;
-    let path = contacted(rt, script, path, &runner)?;
-    let path = run_phases(rt, gate, alloc, script, path, &mut runner)?;
-    let path = path.run(rt, Part::Unload)?;
-    let run = runner.end(alloc)?;
+    let Ok(mut runner) = Runner::make(alloc, script, &path) else {
+        drop(path);
+        return Err(AllocError);
+    };
+    let Ok(path) = run_parts(rt, gate, alloc, script, path, &mut runner) else {
+        drop(runner);
+        return Err(AllocError);
+    };
+    let Ok(run) = runner.end(alloc) else {
+        drop(path);
+        return Err(AllocError);
+    };
     let over = path.end(rt);
     Ok(BusRan {
         controls: Controls {
@@ -64,6 +73,28 @@ pub fn run_script<R: Threads + Wait + Sync, G: Gate>(
         to_guest: over.to_guest,
         run,
     })
+}
+
+/// Runs all parts of a script's control path, and its phases between them.
+fn run_parts<R: Threads + Wait + Sync, G: Gate>(
+    rt: &R,
+    gate: &G,
+    alloc: Global,
+    script: &Script,
+    path: ControlPath,
+    runner: &mut Runner,
+) -> Result<ControlPath, AllocError>
+    requires so_far { RunsSoFar script.now runner.old }
+    requires none { runner.old.phase ≡ 0 }
+    requires rests { Rests path }
+    requires guest { path.guest ≡ new_guest (plan_of script.now) }
+    requires path { runner.old.path.value ≡ path }
+    ensures ran { IfOk result (λ over. (before : OnePath) × IsBetween script.now runner.new before × RanPart before over Unload) }
+    ensures all { OnOk result (runner.new.phase ≡ length (parts script.now)) }
+{
+    let path = contacted(rt, script, path, runner)?;
+    let path = run_phases(rt, gate, alloc, script, path, runner)?;
+    Ok(path.run(rt, Part::Unload)?)
 }
 
 /// The control path of a script whose guest and host agreed on a version, and whose devices were offered.
@@ -128,6 +159,9 @@ fn run_next<R: Threads + Wait + Sync, G: Gate>(
 {
     let phase = runner.phase();
     let path = path.run(rt, Part::PhaseStart(phase))?;
-    runner.run_next(rt, gate, alloc, script, &path)?;
+    let Ok(()) = runner.run_next(rt, gate, alloc, script, &path) else {
+        drop(path);
+        return Err(AllocError);
+    };
     Ok(path.run(rt, Part::PhaseEnd(phase))?)
 }

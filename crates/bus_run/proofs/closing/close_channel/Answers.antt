@@ -3,7 +3,6 @@ use Rattle.bus_threads.specs.Pairs.{RanPair}
 use Rattle.ring_pair_laws.specs.Lists.{Lists}
 use Rattle.device_any.specs.Boxes.{kind_in}
 use Rattle.device_any.specs.Seats.{kind_at}
-use Rattle.bus_run.specs.Closing.{ChannelEnded}
 use Rattle.bus_run.proofs.Opened.{still_open}
 use Rattle.device_any.proofs.SeatLaws.{same_kind}
 use Rattle.device_any.proofs.Uniting.{is_opened, kind_opened}
@@ -35,17 +34,17 @@ pub returns-clause-closed : goal.returns-clause-closed
 returns-clause-closed c order first done rest many are ran =
     let same : done ≡ c.in-Some.done = ap (λ l. get_or l 0 done) (sym are ∙ c.in-Some.ensures.items) in
     record {
-      lists = c.make_place.new.lists;
+      lists = c.end_channel-lists.result.0;
       back = c.end_channel-lists.result.1;
-      ended = subst (λ (l : Lists). ChannelEnded order first l c.end_channel-lists.result.1 c.end_channel-lists.result.2) (sym c.make_place.ensures) (c.end_channel-lists.ensures.ended order first many (subst (RanPair order first) same ran));
-      seats = c.in_ok-give_back.ensures.seats;
-      still = still_open c.args.own.now c.give_back.new.self (kind_at c.requires.1) c.requires.5 c.in_ok-give_back.ensures.kind c.in_ok-give_back.ensures.subs;
-      settled_are = c.in_ok-push.ensures.items;
+      ended = c.end_channel-lists.ensures.ended order first many (subst (RanPair order first) same ran);
+      seats = c.in-Ok.ensures.seats;
+      still = still_open c.args.own.now c.give_back.new.self (kind_at c.requires.1) c.requires.5 c.in-Ok.ensures.kind c.in-Ok.ensures.subs;
+      settled_are = c.in-Ok-keep_lists.ensures;
     }
 
 pub returns-clause-carried : goal.returns-clause-carried
 returns-clause-carried c done rest are =
     let same : done ≡ c.in-Some.done = ap (λ l. get_or l 0 done) (sym are ∙ c.in-Some.ensures.items) in
-    c.in_ok-push.ensures.items
+    c.in-Ok-keep_lists.ensures
     ∙ ap (λ (l : Lists). c.args.settled.now.items ++ record { phase = c.args.phase; relid = c.args.due.now.opening.relid; device = c.args.due.now.opening.device; settled = l } ∷ [])
-    (c.make_place.ensures ∙ (c.end_channel-lists.ensures.settled ∙ ap (λ d. d.settled) (sym same)))
+    (c.end_channel-lists.ensures.settled ∙ ap (λ d. d.settled) (sym same))

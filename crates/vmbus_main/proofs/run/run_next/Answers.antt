@@ -17,4 +17,4 @@ run_next-requires-clause-same g c = λ κs asked. still c.args.script.now c.args
 pub returns-clause-between : goal.returns-clause-between
 returns-clause-between g c =
     then_between c.args.script.now c.args.runner.now c.run_next.new.self c.args.path c.in_ok-path.path c.in_ok-run.field-0 c.phase-phase.result c.requires.between c.phase-phase.ensures c.in_ok-path.ensures.ran
-    c.in_ok-run_next.ensures.so_far c.in_ok-run_next.ensures.phase c.run_next.ensures.path c.in_ok-run.ensures.ran
+    c.in-Ok.ensures.so_far c.in-Ok.ensures.phase c.run_next.ensures.path c.in_ok-run.ensures.ran

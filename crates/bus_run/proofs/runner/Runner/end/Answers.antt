@@ -4,7 +4,7 @@ use Rattle.bus_run.proofs.runner.Runner.end.Goals as goal
 
 pub returns : goal.returns
 returns c = record {
-  run = λ lines so_far over. finish lines c.args.self c.in_ok-histories.histories.items so_far over c.in_ok-histories.ensures.logs c.in_ok-histories.ensures.legal;
+  run = λ lines so_far over. finish lines c.args.self c.in-Ok.histories.items so_far over c.in-Ok.ensures.logs c.in-Ok.ensures.legal;
   work = λ lines so_far over. finish_worked lines c.args.self so_far over;
   path = refl;
 }
