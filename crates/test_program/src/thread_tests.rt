@@ -9,7 +9,8 @@ use std::sync::Wait;
 use std::sync::atomic::{AtomicU64, Ordering};
 use std::thread::Threads;
 
-const RUNS: u32 = 1_000;
+// How many runs of the thousand each of four tests makes.
+const RUNS: u32 = 250;
 
 /// Holds the first request at the guests of relids 1 and 2, each until the other guest has come to its own.
 #[derive(Drop)]
@@ -143,6 +144,21 @@ fn same_reports(rt: &(impl Threads + Wait + Sync + Abort + AllocGlobal)) -> u32 
 }
 
 #[test]
-fn a_thousand_runs_give_one_report(rt: HostRuntime) {
+fn runs_1_to_250_give_one_report(rt: HostRuntime) {
+    check(&rt, same_reports(&rt) == RUNS);
+}
+
+#[test]
+fn runs_251_to_500_give_one_report(rt: HostRuntime) {
+    check(&rt, same_reports(&rt) == RUNS);
+}
+
+#[test]
+fn runs_501_to_750_give_one_report(rt: HostRuntime) {
+    check(&rt, same_reports(&rt) == RUNS);
+}
+
+#[test]
+fn runs_751_to_1000_give_one_report(rt: HostRuntime) {
     check(&rt, same_reports(&rt) == RUNS);
 }
